@@ -1,0 +1,2 @@
+pub mod FrameLaws
+pub mod Trip

@@ -1,0 +1,115 @@
+-- The round trips: an accepted frame, read and written, has its bytes; fields that are written and read are those fields.
+-- And precedence as one number is the number that its 13 bytes make where they stand.
+use mathlib.Core.Path.{_≡_, refl, sym, ap, _∙_, subst}
+use mathlib.Core.List.{List, [], _∷_, _++_}
+use Prim.Native.Nat.{ℕ, _^_, _<_, _≤_}
+use native.Mathlib.Omega.{arith}
+use lib.Dec.{lit<}
+use lib.ListN.{length, take, drop, getD}
+use lib.Seq.{take-all, take-at}
+use Rattle.numbers.specs.Digits.{numberAt}
+use Rattle.numbers.specs.Table.{total, parted, joined, Held}
+use Rattle.numbers.proofs.Places.{Bytes, number-add}
+use Rattle.numbers.proofs.Table.{held-at, held-parted, length-joined, joined-append, joined-parted, parted-joined}
+use Rattle.frame.specs.Precedence.{precedenceOf}
+use Rattle.frame.specs.Frame.{frameLength, widths, valuesOf, fieldsOf}
+use Rattle.frame.specs.Read.{rowsOf, readOf}
+use Rattle.frame.specs.Write.{unwritten, writtenOf}
+use Rattle.frame.specs.Better.{precedenceStart, precedenceBytes}
+use Rattle.frame.specs.declared.Fields.{Fields}
+use Rattle.frame.specs.declared.Reading.the-variants.{Frame}
+use Rattle.frame.proofs.FrameLaws.{Accepted, accepted, by-rows, framed, reading, Written, in-range, unrefused, filled}
+
+-- ---- read, then written
+
+-- the rows of an accepted frame are what its fields put into them
+rows-values : (s : List ℕ) → Accepted s → valuesOf (fieldsOf (rowsOf s)) ≡ rowsOf s
+unfolding parted
+rows-values s a =
+    let v : ℕ → ℕ = λ k. getD (rowsOf s) k 0 in
+    λ i. sym (a .da) i
+    ∷ v 1 ∷ v 2 ∷ v 3 ∷ v 4 ∷ v 5 ∷ v 6
+    ∷ sym (a .protocolType) i ∷ sym (a .function) i ∷ sym (a .version) i
+    ∷ v 10 ∷ v 11 ∷ v 12 ∷ v 13 ∷ v 14
+    ∷ v 15 ∷ v 16 ∷ sym (a .byte31) i
+    ∷ v 18 ∷ v 19 ∷ v 20 ∷ v 21 ∷ v 22 ∷ v 23 ∷ []
+
+-- the times of an accepted frame fit their rows
+rows-written : (s : List ℕ) (n : ℕ) → Bytes s → length s ≡ frameLength → frameLength ≤ n → Written (fieldsOf (rowsOf s)) n
+rows-written s n b l r =
+    let h : Held widths (rowsOf s) = held-parted widths 0 s b (omega arith) in
+    record {
+      seconds = held-at widths (rowsOf s) 18 h (lit< tt);
+      fraction = held-at widths (rowsOf s) 19 h (lit< tt);
+      local = held-at widths (rowsOf s) 20 h (lit< tt);
+      tx = held-at widths (rowsOf s) 21 h (lit< tt);
+      rx = held-at widths (rowsOf s) 22 h (lit< tt);
+      room = r;
+    }
+
+-- the bytes of an accepted frame's fields are the frame
+rows-joined : (s t : List ℕ) → Bytes s → Accepted s → joined widths (valuesOf (fieldsOf (rowsOf s))) t ≡ s ++ t
+rows-joined s t b a =
+    ap (λ (vs : List ℕ). joined widths vs t) (rows-values s a)
+    ∙ joined-parted widths 0 s t b (omega (arith, a .sized))
+    ∙ ap (λ (l : List ℕ). l ++ t) (take-all frameLength s (omega (arith, a .sized)))
+
+pub read-written : (s out : List ℕ) (f : Fields) → Bytes s → readOf s ≡ Frame f → frameLength ≤ length out
+    → (unwritten f (length out) ≡ 0) × (writtenOf f out ≡ s ++ drop frameLength out)
+read-written s out f b e r =
+    let q = reading s f e in
+    let a = accepted s (q .0) in
+    subst (λ (g : Fields). (unwritten g (length out) ≡ 0) × (writtenOf g out ≡ s ++ drop frameLength out)) (q .1)
+    (let g = fieldsOf (rowsOf s) in
+    let z : unwritten g (length out) ≡ 0 = unrefused g (length out) (rows-written s (length out) b (a .sized) r) in
+    (z, sym (filled g 0 out (sym z) refl) ∙ rows-joined s (drop frameLength out) b a))
+
+-- ---- written, then read
+
+-- what the types of the fields say
+pub record Typed (f : Fields) : Type 0 where
+  pub sa0 : f .sa .0 < 256
+  pub sa1 : f .sa .1 < 256
+  pub sa2 : f .sa .2 < 256
+  pub sa3 : f .sa .3 < 256
+  pub sa4 : f .sa .4 < 256
+  pub sa5 : f .sa .5 < 256
+  pub priority1 : f .precedence .priority1 < 256
+  pub source : f .precedence .source < 256
+  pub variance : f .precedence .variance < 2 ^ 16
+  pub priority2 : f .precedence .priority2 < 256
+  pub clock : f .precedence .clock < 2 ^ 64
+  pub hop : f .hop < 256
+  pub count : f .count < 256
+  pub error : f .error .0 < 2 ^ 32
+
+-- each field fits its row
+values-held : (f : Fields) (n : ℕ) → Typed f → Written f n → Held widths (valuesOf f)
+values-held f n t w = omega arith
+
+pub written-read : (f : Fields) (out : List ℕ) → Typed f → unwritten f (length out) ≡ 0 → readOf (take frameLength (writtenOf f out)) ≡ Frame f
+written-read f out t e =
+    let h = values-held f (length out) t (in-range f (length out) e) in
+    let vs = valuesOf f in
+    let s = joined widths vs [] in
+    let l : length s ≡ frameLength = length-joined widths vs [] h in
+    let rows : rowsOf s ≡ vs = parted-joined widths vs [] [] 0 refl h in
+    let first : take frameLength (writtenOf f out) ≡ s =
+    ap (take frameLength) (sym (filled f 0 out (sym e) refl) ∙ joined-append widths vs (drop frameLength out))
+    ∙ take-at s (drop frameLength out) frameLength l in
+    ap readOf first ∙ sym (framed 0 s (by-rows s vs l (sym rows)) refl) ∙ ap (λ (v : List ℕ). Frame (fieldsOf v)) rows
+
+-- ---- precedence
+
+-- where the layout puts precedence, and how many bytes a frame has
+pub layout : (total (take 10 widths) ≡ precedenceStart) × (total (take 5 (drop 10 widths)) ≡ precedenceBytes) × (total widths ≡ frameLength)
+layout = (refl, refl, refl)
+
+-- the number of 104 bits is the one that the 13 bytes make
+pub precedence-number : (s : List ℕ) (f : Fields) → readOf s ≡ Frame f → precedenceOf (f .precedence) ≡ numberAt s precedenceStart precedenceBytes
+unfolding precedenceOf parted
+precedence-number s f e =
+    let q = reading s f e in
+    let l = accepted s (q .0) .sized in
+    ap (λ (g : Fields). precedenceOf (g .precedence)) (sym (q .1))
+    ∙ omega (arith, number-add s 16 1 12 (omega arith), number-add s 17 1 11 (omega arith), number-add s 18 2 9 (omega arith), number-add s 20 1 8 (omega arith))

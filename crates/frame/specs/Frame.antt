@@ -1,0 +1,69 @@
+-- The frame: a table of widths, what stands in each row, and the fields that are read off the rows.
+use Prim.Native.Nat.{ℕ}
+use mathlib.Core.List.{List, [], _∷_}
+use lib.ListN.{getD}
+use Rattle.frame.specs.declared.Mac.{Mac}
+use Rattle.frame.specs.declared.Precedence.{Precedence}
+use Rattle.frame.specs.declared.Fields.{Fields}
+
+abbrev pub frameLength : ℕ
+frameLength = 64
+
+-- what stands in every frame: da 01-80-C2-00-00-0E, protocolType, function, version
+abbrev pub stationAddress : ℕ
+stationAddress = 0x0180C200000E
+
+abbrev pub localExperimental : ℕ
+localExperimental = 0x88B5
+
+abbrev pub timeSync : ℕ
+timeSync = 1
+
+abbrev pub firstVersion : ℕ
+firstVersion = 1
+
+-- the width in bytes of each row, first to last
+abbrev pub widths : List ℕ
+widths =
+    6  -- 0: da
+    ∷ 1 ∷ 1 ∷ 1 ∷ 1 ∷ 1 ∷ 1  -- 1 to 6: sa
+    ∷ 2 ∷ 1 ∷ 1  -- 7 to 9: protocolType, function, version
+    ∷ 1 ∷ 1 ∷ 2 ∷ 1 ∷ 8  -- 10 to 14: precedence
+    ∷ 1 ∷ 1 ∷ 1  -- 15 to 17: hopCount, frameCount, zero
+    ∷ 5 ∷ 5  -- 18, 19: grandTime
+    ∷ 6 ∷ 6 ∷ 6  -- 20 to 22: localTime, thatTxTime, thatRxTime
+    ∷ 4  -- 23: errorTime
+    ∷ []
+
+-- what the fields put into each row
+abbrev pub valuesOf : Fields → List ℕ
+valuesOf f =
+    stationAddress
+    ∷ f .sa .0 ∷ f .sa .1 ∷ f .sa .2 ∷ f .sa .3 ∷ f .sa .4 ∷ f .sa .5
+    ∷ localExperimental ∷ timeSync ∷ firstVersion
+    ∷ f .precedence .priority1 ∷ f .precedence .source ∷ f .precedence .variance ∷ f .precedence .priority2 ∷ f .precedence .clock
+    ∷ f .hop ∷ f .count ∷ 0
+    ∷ f .grand .0 ∷ f .grand .1
+    ∷ f .local .0 ∷ f .tx .0 ∷ f .rx .0
+    ∷ f .error .0
+    ∷ []
+
+-- the fields that stand in the rows
+abbrev pub macOf : List ℕ → Mac
+macOf vs = record { 0 = getD vs 1 0; 1 = getD vs 2 0; 2 = getD vs 3 0; 3 = getD vs 4 0; 4 = getD vs 5 0; 5 = getD vs 6 0 }
+
+abbrev pub precedenceIn : List ℕ → Precedence
+precedenceIn vs = record { priority1 = getD vs 10 0; source = getD vs 11 0; variance = getD vs 12 0; priority2 = getD vs 13 0; clock = getD vs 14 0 }
+
+abbrev pub fieldsOf : List ℕ → Fields
+fieldsOf vs = record {
+  sa = macOf vs;
+  precedence = precedenceIn vs;
+  hop = getD vs 15 0;
+  count = getD vs 16 0;
+  grand = record { 0 = getD vs 18 0; 1 = getD vs 19 0 };
+  local = record { 0 = getD vs 20 0 };
+  tx = record { 0 = getD vs 21 0 };
+  rx = record { 0 = getD vs 22 0 };
+  error = record { 0 = getD vs 23 0 };
+}

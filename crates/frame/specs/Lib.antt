@@ -1,0 +1,5 @@
+pub mod Precedence
+pub mod Frame
+pub mod Read
+pub mod Write
+pub mod Better

@@ -1,0 +1,6 @@
+pub mod Ring
+pub mod Floor
+pub mod Machine
+pub mod Places
+pub mod Table
+pub mod Pairs

@@ -1,0 +1,40 @@
+-- A part of the output is lent to `put`; the rest stays.
+use mathlib.Core.Path.{_≡_, ap, _∙_}
+use mathlib.Core.List.{List, _++_}
+use Prim.Native.Nat.{ℕ, _≤_}
+use native.Mathlib.Omega.{arith}
+use native.Mathlib.Nat.{add-sub-cancel-left}
+use lib.ListN.{length, take, drop, length-drop}
+use lib.Seq.{length-take-le, drop-drop}
+use borrow.Author.Needs.{needs}
+use Rattle.numbers.proofs.digits.put_at.Statement.{statement}
+use Rattle.numbers.proofs.digits.put_at.Tie as tie
+
+add-put : tie.Need-add-put
+add-put c = search needs
+
+sub-put : tie.Need-sub-put
+sub-put c = search needs
+
+part-put-start : tie.Need-part-put-start
+part-put-start c = search needs
+
+part-put-end : tie.Need-part-put-end
+part-put-end c = search needs
+
+put-requires : tie.Need-put-requires
+put-requires c κs = search needs
+
+same-length : tie.Need-same-length
+same-length c = search needs
+
+returns : tie.Need-returns
+returns c =
+    let a = c .before .before .before .before .before .args in
+    let h : a .n ≤ length (drop (a .at) (a .out .now)) = simp length-drop (omega arith) in
+    rw (c .before .before .put .ensures, add-sub-cancel-left, length-take-le (a .n) (drop (a .at) (a .out .now)) h, drop-drop)
+
+pub put-at-spec : {M : Type 1} → statement M
+put-at-spec =
+    tie.close
+    (tie.spec add-put sub-put part-put-start part-put-end put-requires same-length returns)

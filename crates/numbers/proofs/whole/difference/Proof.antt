@@ -1,0 +1,22 @@
+-- The difference of two naturals below 2^63 fits a signed word.
+use borrow.Author.Needs.{needs}
+use mathlib.Core.Path.{_≡_, ap, _∙_}
+use lib.IntN.{ℤ, pos, _-ℤ_}
+use Rattle.numbers.proofs.Machine.{back, backN, sfits, minus-fits}
+use Rattle.numbers.proofs.whole.difference.Statement.{statement}
+use Rattle.numbers.proofs.whole.difference.Tie as tie
+
+cast-result : tie.Need-cast-result
+cast-result c = search needs
+
+cast-result-2 : tie.Need-cast-result-2
+cast-result-2 c = search needs
+
+sub-result : tie.Need-sub-result
+sub-result c = rw (backN (c .args .a) (c .pre .0), backN (c .args .b) (c .pre .1)) (minus-fits _ _ (c .pre .0) (c .pre .1))
+
+returns : tie.Need-returns
+returns c = rw (backN (c .args .a) (c .pre .0), backN (c .args .b) (c .pre .1), back (pos (c .args .a) -ℤ pos (c .args .b)) (minus-fits _ _ (c .pre .0) (c .pre .1)))
+
+pub difference-spec : {M : Type 1} → statement M
+difference-spec = tie.close (tie.spec cast-result cast-result-2 sub-result returns)

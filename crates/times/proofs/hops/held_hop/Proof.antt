@@ -1,0 +1,23 @@
+-- Each arm is a case of the held hop.
+use borrow.Author.Needs.{needs}
+use Rattle.times.proofs.HopLaws.{hop-jump, hop-step}
+use Rattle.times.proofs.hops.held_hop.Statement.{statement}
+use Rattle.times.proofs.hops.held_hop.Tie as tie
+
+sub-result : tie.Need-sub-result
+sub-result c = search needs
+
+add-result : tie.Need-add-result
+add-result c = search needs
+
+add-result-2 : tie.Need-add-result-2
+add-result-2 c = search needs
+
+returns : tie.Need-returns
+returns c = hop-jump _ _ (c .if1 .taken)
+
+returns-2 : tie.Need-returns-2
+returns-2 c = hop-step _ _ (c .if1 .left)
+
+pub held-hop-spec : {M : Type 1} → statement M
+held-hop-spec = tie.close (tie.spec sub-result add-result add-result-2 returns returns-2)

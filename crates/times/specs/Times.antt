@@ -1,0 +1,49 @@
+-- Times: the circle of local time, grand time as one number, errorTime as a signed number, the count of frames.
+use Prim.Native.Nat.{ℕ, _+_, _-_, _*_, _/_, _%_, _^_, _<_}
+use lib.IntN.{ℤ}
+use mir.Syntax.{w32}
+use mir.Val.{toZ}
+use Rattle.times.specs.declared.LocalTime.{LocalTime}
+use Rattle.times.specs.declared.GrandTime.{GrandTime}
+use Rattle.times.specs.declared.ErrorTime.{ErrorTime}
+
+-- the units of local time's circle
+abbrev pub circle : ℕ
+circle = 2 ^ 48
+
+-- the units of a second
+abbrev pub second : ℕ
+second = 2 ^ 40
+
+-- where grand time ends: 40 bits of seconds and 40 bits of fraction
+abbrev pub grandEnd : ℕ
+grandEnd = 2 ^ 80
+
+-- a - b, modulo 2^48
+unfoldable pub sinceOf : LocalTime → LocalTime → ℕ
+sinceOf a b = (a .0 % circle + circle - b .0 % circle) % circle
+
+-- the local time that lies n before t
+abbrev pub earlierBy : LocalTime → ℕ → LocalTime
+earlierBy t n = record { 0 = sinceOf t (record { 0 = n }) }
+
+-- grand time as one number
+abbrev pub units : GrandTime → ℕ
+units g = g .0 * second + g .1
+
+-- the grand time of a number of units
+abbrev pub grandOf : ℕ → GrandTime
+grandOf n = record { 0 = n / second; 1 = n % second }
+
+-- seconds and fraction have 40 bits each
+pub record InRange (g : GrandTime) : Type 0 where
+  pub seconds : g .0 < second
+  pub fraction : g .1 < second
+
+-- errorTime as a signed number
+abbrev pub errorOf : ErrorTime → ℤ
+errorOf e = toZ w32 (e .0)
+
+-- the frameCount that follows
+abbrev pub nextCount : ℕ → ℕ
+nextCount c = (c + 1) % 256
