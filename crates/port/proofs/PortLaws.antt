@@ -1,0 +1,203 @@
+-- Laws of the records: one for each case of a definition, and that every step keeps a record lawful.
+use mathlib.Core.Path.{_≡_, refl, sym, ap, _∙_, subst}
+use mathlib.Core.Bool.{Bool, true, false, cond}
+use Prim.Native.Nat.{ℕ, _+_, _*_, _<_, _≤_}
+use native.Mathlib.Omega.{arith}
+use borrow.Author.Tests.{lt-ltb, le-ltb, ltb-true, ltb-false, eq-eqb, ne-eqb}
+use lib.Dec.{ltb, eqb}
+use Rattle.times.specs.Times.{circle, sinceOf, InRange, earlierBy, nextCount}
+use Rattle.times.specs.Keep.{LawfulSamples, keptOf}
+use Rattle.times.specs.Hop.{lastHop, hopOf}
+use Rattle.times.specs.Delay.{linkDelayOf}
+use Rattle.times.specs.Rate.{neighbourRateOf}
+use Rattle.times.proofs.KeepLaws.{kept-lawful}
+use Rattle.times.specs.declared.LocalTime.{LocalTime}
+use Rattle.times.specs.declared.GrandTime.{GrandTime}
+use Rattle.times.specs.declared.Samples.{Samples}
+use Rattle.times.specs.declared.Sent.{Sent}
+use Rattle.times.specs.Sent.{sentOf}
+use Rattle.times.specs.declared.DelaySetting.{DelaySetting}
+use Rattle.times.specs.declared.Delay.{Delay}
+use Rattle.times.specs.declared.Delay.the-variants.{Is, TooLong}
+use Rattle.frame.specs.Precedence.{keyOf}
+use Rattle.frame.specs.declared.Precedence.{Precedence}
+use Rattle.frame.specs.declared.Fields.{Fields}
+use Rattle.frame.specs.declared.Mac.{Mac}
+use Rattle.port.specs.Record.{silenced, agedBy, agedPort, emptyPort, usedPort}
+use Rattle.port.specs.Lawful.{LawfulLast, LawfulPort, LawfulClock, FieldsInRange}
+use Rattle.port.specs.Own.{storedAs, ownSample, toldBy, toldOf}
+use Rattle.port.specs.Receive.{sampleOf, sameClock, refusedBy, takenPort, delayedBy, followedBy, countedBy, receivedOf}
+use Rattle.port.specs.Choose.{rankOf}
+use Rattle.port.specs.Send.{sendingBy, sendingOf}
+use Rattle.port.specs.declared.Choice.{Choice}
+use Rattle.port.specs.declared.Choice.the-variants.{Nothing, Clock}
+use Rattle.port.specs.declared.Sending.the-variants.{Refused, Frame}
+use Rattle.port.specs.declared.Last.{Last}
+use Rattle.port.specs.declared.Last.the-variants.{Never, Was}
+use Rattle.port.specs.declared.Heard.{Heard}
+use Rattle.port.specs.declared.Heard.the-variants.{Silent, Said}
+use Rattle.port.specs.declared.Port.{Port}
+use Rattle.port.specs.declared.OwnClock.{OwnClock}
+use Rattle.port.specs.declared.Received.{Received}
+use Rattle.port.specs.declared.Told.{Told}
+use Rattle.port.proofs.Choices.{if-true, if-false, if-when}
+
+-- ---- ageing
+
+module _ (at : LocalTime) (timeout : ℕ) (port : Port) where
+  by-heard : {h : Heard} → port .heard ≡ h → agedBy h at timeout port ≡ agedPort at timeout port
+  unfolding agedPort
+  by-heard e = ap (λ (h : Heard). agedBy h at timeout port) (sym e)
+
+  pub aged-silent : port .heard ≡ Silent → port ≡ agedPort at timeout port
+  aged-silent e = by-heard e
+
+  pub aged-fresh : {p : Precedence} {h : ℕ} {when : LocalTime} → port .heard ≡ Said p h when → sinceOf at when < timeout → port ≡ agedPort at timeout port
+  aged-fresh e l = if-true _ port (silenced port) (lt-ltb _ _ l) ∙ by-heard e
+
+  pub aged-old : {p : Precedence} {h : ℕ} {when : LocalTime} → port .heard ≡ Said p h when → timeout ≤ sinceOf at when → silenced port ≡ agedPort at timeout port
+  aged-old e l = if-false _ port (silenced port) (le-ltb _ _ l) ∙ by-heard e
+
+-- ---- receiving
+
+module _ (setting : DelaySetting) (chosen : ℕ) (f : Fields) (at : LocalTime) (port : Port) where
+  pub received-last-hop : f .hop ≡ lastHop → refusedBy 7 (f .count) at port ≡ receivedOf setting chosen f at port
+  unfolding receivedOf
+  received-last-hop e = if-true _ _ _ (eq-eqb _ _ e)
+
+  by-last : {l : Last} → (f .hop ≡ lastHop → ⊥) → port .last ≡ l → countedBy l setting chosen f at port ≡ receivedOf setting chosen f at port
+  unfolding receivedOf
+  by-last n e =
+      ap (λ (l : Last). countedBy l setting chosen f at port) (sym e)
+      ∙ if-false _ (refusedBy 7 (f .count) at port) (countedBy (port .last) setting chosen f at port) (ne-eqb _ _ n)
+
+  pub received-first : (f .hop ≡ lastHop → ⊥) → port .last ≡ Never → refusedBy 8 (f .count) at port ≡ receivedOf setting chosen f at port
+  received-first n e = by-last n e
+
+  pub received-next : {count : ℕ} {p : LocalTime} → (f .hop ≡ lastHop → ⊥) → port .last ≡ Was count p → f .count ≡ nextCount count
+      → followedBy setting chosen f p at port ≡ receivedOf setting chosen f at port
+  received-next n e k = if-true _ (followedBy setting chosen f _ at port) (refusedBy 8 (f .count) at port) (eq-eqb _ _ k) ∙ by-last n e
+
+  pub received-other : {count : ℕ} {p : LocalTime} → (f .hop ≡ lastHop → ⊥) → port .last ≡ Was count p → (f .count ≡ nextCount count → ⊥)
+      → refusedBy 8 (f .count) at port ≡ receivedOf setting chosen f at port
+  received-other n e k = if-false _ (followedBy setting chosen f _ at port) (refusedBy 8 (f .count) at port) (ne-eqb _ _ k) ∙ by-last n e
+
+  -- a frame that follows, by its delay
+  pub followed-by : {d : Delay} (p : LocalTime) → d ≡ linkDelayOf setting (neighbourRateOf (port .pair) (f .local) p) (f .local) p (f .tx) (f .rx)
+      → delayedBy d chosen f p at port ≡ followedBy setting chosen f p at port
+  unfolding followedBy
+  followed-by p e = ap (λ (d : Delay). delayedBy d chosen f p at port) e
+
+-- ---- the own clock
+
+module _ (count : ℕ) (grand : GrandTime) (at : LocalTime) (clock : OwnClock) where
+  told-by : {l : Last} → clock .last ≡ l → toldBy l count grand at (clock .samples) ≡ toldOf count grand at clock
+  unfolding toldOf
+  told-by e = ap (λ (l : Last). toldBy l count grand at (clock .samples)) (sym e)
+
+  pub told-first : clock .last ≡ Never → storedAs 8 (clock .samples) count at ≡ toldOf count grand at clock
+  told-first e = told-by e
+
+  pub told-next : {held : ℕ} {when : LocalTime} → clock .last ≡ Was held when → count ≡ nextCount held
+      → storedAs 0 (keptOf (clock .samples) true (ownSample grand when)) count at ≡ toldOf count grand at clock
+  told-next e k = if-true _ (storedAs 0 (keptOf (clock .samples) true (ownSample grand _)) count at) (storedAs 8 (clock .samples) count at) (eq-eqb _ _ k) ∙ told-by e
+
+  pub told-other : {held : ℕ} {when : LocalTime} → clock .last ≡ Was held when → (count ≡ nextCount held → ⊥)
+      → storedAs 8 (clock .samples) count at ≡ toldOf count grand at clock
+  told-other e k = if-false _ (storedAs 0 (keptOf (clock .samples) true (ownSample grand _)) count at) (storedAs 8 (clock .samples) count at) (ne-eqb _ _ k) ∙ told-by e
+
+-- ---- ranks
+
+module _ (p q : Precedence) (h k i j : ℕ) where
+  pub rank-less : i < 256 → ltb (keyOf p h) (keyOf q k) ≡ true → true ≡ ltb (rankOf p h i) (rankOf q k j)
+  unfolding rankOf
+  rank-less l e = let o : keyOf p h < keyOf q k = ltb-true _ _ e in sym (lt-ltb (keyOf p h * 256 + i) (keyOf q k * 256 + j) (omega arith))
+
+  pub rank-more : j < 256 → ltb (keyOf q k) (keyOf p h) ≡ true → false ≡ ltb (rankOf p h i) (rankOf q k j)
+  unfolding rankOf
+  rank-more l e = let o : keyOf q k < keyOf p h = ltb-true _ _ e in sym (le-ltb (keyOf p h * 256 + i) (keyOf q k * 256 + j) (omega arith))
+
+  pub rank-tie : ltb (keyOf p h) (keyOf q k) ≡ false → ltb (keyOf q k) (keyOf p h) ≡ false → ltb i j ≡ ltb (rankOf p h i) (rankOf q k j)
+  unfolding rankOf
+  rank-tie e g =
+      let o : keyOf q k ≤ keyOf p h = ltb-false _ _ e in
+      let r : keyOf p h ≤ keyOf q k = ltb-false _ _ g in
+      go (ltb i j) refl o r
+    where
+      go : (b : Bool) → ltb i j ≡ b → keyOf q k ≤ keyOf p h → keyOf p h ≤ keyOf q k → ltb i j ≡ ltb (keyOf p h * 256 + i) (keyOf q k * 256 + j)
+      go true e o r = let l : i < j = ltb-true _ _ e in e ∙ sym (lt-ltb (keyOf p h * 256 + i) (keyOf q k * 256 + j) (omega arith))
+      go false e o r = let l : j ≤ i = ltb-false _ _ e in e ∙ sym (le-ltb (keyOf p h * 256 + i) (keyOf q k * 256 + j) (omega arith))
+
+-- ---- sending
+
+module _ (choice : Choice) (samples : Samples) (mac : Mac) (back : ℕ) (t : LocalTime) (port : Port) where
+  pub send-none : choice ≡ Nothing → Refused 10 ≡ sendingOf choice samples mac back t port
+  unfolding sendingOf
+  send-none e = ap (λ (x : Choice). sendingOf x samples mac back t port) (sym e)
+
+  pub send-by : {p : Precedence} {h n : ℕ} {s : Sent} → choice ≡ Clock p h n → s ≡ sentOf samples t back
+      → sendingBy s mac p h t port ≡ sendingOf choice samples mac back t port
+  unfolding sendingOf
+  send-by {p} {h} {n} e g =
+      ap (λ (x : Sent). sendingBy x mac p h t port) g ∙ ap (λ (x : Choice). sendingOf x samples mac back t port) (sym e)
+
+-- ---- every step keeps a record lawful
+
+pub empty-lawful : LawfulPort emptyPort
+empty-lawful = record { last = tt; samples = tt; echo = tt }
+
+pub used-lawful : (port : Port) → LawfulPort port → LawfulPort (usedPort port)
+used-lawful port l = record { last = l .last; samples = l .samples; echo = l .echo }
+
+pub aged-lawful : (at : LocalTime) (timeout : ℕ) (port : Port) → LawfulPort port → LawfulPort (agedPort at timeout port)
+unfolding agedPort
+aged-lawful at timeout port l = go (port .heard)
+  where
+    go : (h : Heard) → LawfulPort (agedBy h at timeout port)
+    go Silent = l
+    go (Said p h when) = if-when LawfulPort (ltb (sinceOf at when) timeout) (λ _. l) (λ _. record { last = l .last; samples = tt; echo = tt })
+
+noted-lawful : (count : ℕ) (at : LocalTime) (port : Port) (k : ℕ) → at .0 < circle → LawfulPort port → LawfulPort (refusedBy k count at port .port)
+noted-lawful count at port k h l = record { last = h; samples = l .samples; echo = l .echo }
+
+abbrev After : Received → Type 0
+After r = LawfulPort (r .port)
+
+pub received-lawful : (setting : DelaySetting) (chosen : ℕ) (f : Fields) (at : LocalTime) (port : Port)
+    → at .0 < circle → FieldsInRange f → LawfulPort port → LawfulPort (receivedOf setting chosen f at port .port)
+unfolding receivedOf followedBy
+received-lawful setting chosen f at port h r l =
+    if-when After (eqb (f .hop) lastHop) (λ _. noted-lawful (f .count) at port 7 h l) (λ _. counted (port .last) (l .last))
+  where
+    delayed : (d : Delay) (p : LocalTime) → p .0 < circle → After (delayedBy d chosen f p at port)
+    delayed TooLong p hp = noted-lawful (f .count) at port 9 h l
+    delayed (Is n) p hp = record {
+      last = h;
+      samples = kept-lawful (port .samples) (sameClock (port .heard) (f .precedence)) (sampleOf f p n) (l .samples) (r .grand);
+      echo = (r .local, hp);
+    }
+
+    counted : (last : Last) → LawfulLast last → After (countedBy last setting chosen f at port)
+    counted Never t = noted-lawful (f .count) at port 8 h l
+    counted (Was count p) t =
+        if-when After (eqb (f .count) (nextCount count))
+        (λ _. delayed (linkDelayOf setting (neighbourRateOf (port .pair) (f .local) p) (f .local) p (f .tx) (f .rx)) p t)
+        (λ _. noted-lawful (f .count) at port 8 h l)
+
+abbrev Clocked : Told → Type 0
+Clocked t = LawfulClock (t .clock)
+
+pub told-lawful : (count : ℕ) (grand : GrandTime) (at : LocalTime) (clock : OwnClock)
+    → at .0 < circle → InRange grand → LawfulClock clock → LawfulClock (toldOf count grand at clock .clock)
+unfolding toldOf
+told-lawful count grand at clock h r l = go (clock .last)
+  where
+    kept : (k : ℕ) (samples : Samples) → LawfulSamples samples → Clocked (storedAs k samples count at)
+    kept k samples s = record { last = h; samples = s }
+
+    go : (last : Last) → Clocked (toldBy last count grand at (clock .samples))
+    go Never = kept 8 (clock .samples) (l .samples)
+    go (Was held when) =
+        if-when Clocked (eqb count (nextCount held))
+        (λ _. kept 0 _ (kept-lawful (clock .samples) true (ownSample grand when) (l .samples) r))
+        (λ _. kept 8 (clock .samples) (l .samples))

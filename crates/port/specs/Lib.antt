@@ -1,0 +1,6 @@
+pub mod Record
+pub mod Lawful
+pub mod Own
+pub mod Receive
+pub mod Choose
+pub mod Send

@@ -1,0 +1,31 @@
+-- Own clock, on its record.
+use Prim.Native.Nat.{ℕ}
+use mathlib.Core.Bool.{true, cond}
+use lib.Dec.{eqb}
+use Rattle.times.specs.Times.{nextCount}
+use Rattle.times.specs.Keep.{keptOf}
+use Rattle.times.specs.declared.LocalTime.{LocalTime}
+use Rattle.times.specs.declared.GrandTime.{GrandTime}
+use Rattle.times.specs.declared.Sample.{Sample}
+use Rattle.times.specs.declared.Samples.{Samples}
+use Rattle.port.specs.declared.Last.{Last}
+use Rattle.port.specs.declared.Last.the-variants.{Never, Was}
+use Rattle.port.specs.declared.OwnClock.{OwnClock}
+use Rattle.port.specs.declared.Told.{Told}
+
+-- an answer, with these samples and with the reading's frameCount and time stored
+abbrev pub storedAs : ℕ → Samples → ℕ → LocalTime → Told
+storedAs k samples count at = record { answer = k; clock = record { last = Was count at; samples = samples } }
+
+-- the grand time belongs to the time of the preceding reading, with errorTime 0
+abbrev pub ownSample : GrandTime → LocalTime → Sample
+ownSample grand when = record { grand = grand; local = when; error = record { 0 = 0 } }
+
+-- 8 where the frameCount does not follow on the preceding one, or there is none
+abbrev pub toldBy : Last → ℕ → GrandTime → LocalTime → Samples → Told
+toldBy Never count grand at samples = storedAs 8 samples count at
+toldBy (Was held when) count grand at samples =
+    cond (eqb count (nextCount held)) (storedAs 0 (keptOf samples true (ownSample grand when)) count at) (storedAs 8 samples count at)
+
+unfoldable pub toldOf : ℕ → GrandTime → LocalTime → OwnClock → Told
+toldOf count grand at clock = toldBy (clock .last) count grand at (clock .samples)

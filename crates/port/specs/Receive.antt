@@ -1,0 +1,73 @@
+-- Receive, on one record: steps 1 to 5 for a frame that was read.
+use Prim.Native.Nat.{ℕ}
+use mathlib.Core.Bool.{Bool, true, false, cond}
+use lib.Dec.{eqb}
+use Rattle.times.specs.Times.{earlierBy, nextCount}
+use Rattle.times.specs.Rate.{neighbourRateOf}
+use Rattle.times.specs.Delay.{linkDelayOf}
+use Rattle.times.specs.Hop.{lastHop, hopOf}
+use Rattle.times.specs.Keep.{keptOf}
+use Rattle.times.specs.declared.LocalTime.{LocalTime}
+use Rattle.times.specs.declared.Sample.{Sample}
+use Rattle.times.specs.declared.Stamps.the-variants.{Set}
+use Rattle.times.specs.declared.DelaySetting.{DelaySetting}
+use Rattle.times.specs.declared.Delay.{Delay}
+use Rattle.times.specs.declared.Delay.the-variants.{Is, TooLong}
+use Rattle.frame.specs.Precedence.{precedenceOf}
+use Rattle.frame.specs.declared.Precedence.{Precedence}
+use Rattle.frame.specs.declared.Fields.{Fields}
+use Rattle.port.specs.declared.Last.{Last}
+use Rattle.port.specs.declared.Last.the-variants.{Never, Was}
+use Rattle.port.specs.declared.Heard.{Heard}
+use Rattle.port.specs.declared.Heard.the-variants.{Silent, Said}
+use Rattle.port.specs.declared.Port.{Port}
+use Rattle.port.specs.declared.Received.{Received}
+
+-- whether the announcement is of the clock with this precedence
+unfoldable pub sameClock : Heard → Precedence → Bool
+sameClock Silent precedence = false
+sameClock (Said held hop when) precedence = eqb (precedenceOf held) (precedenceOf precedence)
+
+-- a refused frame: frameCount and arrival are stored as the next p, and nothing else
+abbrev pub notedPort : ℕ → LocalTime → Port → Port
+notedPort count at port =
+    record { last = Was count at; heard = port .heard; samples = port .samples; pair = port .pair; echo = port .echo; next = port .next }
+
+abbrev pub refusedBy : ℕ → ℕ → LocalTime → Port → Received
+refusedBy k count at port = record { answer = k; port = notedPort count at port }
+
+-- step 4: the frame's sample
+abbrev pub sampleOf : Fields → LocalTime → ℕ → Sample
+sampleOf f p delay = record { grand = f .grand; local = earlierBy p delay; error = f .error }
+
+-- steps 4 and 5: what is stored of a frame with this held hop and delay
+abbrev pub takenPort : Fields → ℕ → LocalTime → ℕ → LocalTime → Port → Port
+takenPort f hop p delay at port = record {
+  last = Was (f .count) at;
+  heard = Said (f .precedence) hop at;
+  samples = keptOf (port .samples) (sameClock (port .heard) (f .precedence)) (sampleOf f p delay);
+  pair = Set (f .local) p;
+  echo = Set (f .local) p;
+  next = port .next;
+}
+
+-- step 3, and 9 for a delay that is too long
+abbrev pub delayedBy : Delay → ℕ → Fields → LocalTime → LocalTime → Port → Received
+delayedBy TooLong chosen f p at port = refusedBy 9 (f .count) at port
+delayedBy (Is delay) chosen f p at port = record { answer = 0; port = takenPort f (hopOf (f .hop) chosen) p delay at port }
+
+-- steps 1 and 2, for a frame whose preceding one arrived at p
+unfoldable pub followedBy : DelaySetting → ℕ → Fields → LocalTime → LocalTime → Port → Received
+followedBy setting chosen f p at port =
+    delayedBy (linkDelayOf setting (neighbourRateOf (port .pair) (f .local) p) (f .local) p (f .tx) (f .rx)) chosen f p at port
+
+-- 8 where the frameCount does not follow on the preceding one, or there is none
+abbrev pub countedBy : Last → DelaySetting → ℕ → Fields → LocalTime → Port → Received
+countedBy Never setting chosen f at port = refusedBy 8 (f .count) at port
+countedBy (Was count p) setting chosen f at port =
+    cond (eqb (f .count) (nextCount count)) (followedBy setting chosen f p at port) (refusedBy 8 (f .count) at port)
+
+-- 7 for the last hop, then 8, then 9; `chosen` is the chosen clock's held hop before the call
+unfoldable pub receivedOf : DelaySetting → ℕ → Fields → LocalTime → Port → Received
+receivedOf setting chosen f at port =
+    cond (eqb (f .hop) lastHop) (refusedBy 7 (f .count) at port) (countedBy (port .last) setting chosen f at port)

@@ -1,0 +1,36 @@
+-- The records: empty, aged, and with a frameCount used up.
+use Prim.Native.Nat.{ℕ}
+use mathlib.Core.Bool.{cond}
+use lib.Dec.{ltb}
+use Rattle.times.specs.Times.{sinceOf, nextCount}
+use Rattle.times.specs.declared.LocalTime.{LocalTime}
+use Rattle.times.specs.declared.Samples.the-variants.{Empty}
+use Rattle.times.specs.declared.Stamps.the-variants.{Unset}
+use Rattle.port.specs.declared.Last.the-variants.{Never}
+use Rattle.port.specs.declared.Heard.{Heard}
+use Rattle.port.specs.declared.Heard.the-variants.{Silent, Said}
+use Rattle.port.specs.declared.Port.{Port}
+use Rattle.port.specs.declared.OwnClock.{OwnClock}
+
+-- nothing is stored at first
+abbrev pub emptyPort : Port
+emptyPort = record { last = Never; heard = Silent; samples = Empty; pair = Unset; echo = Unset; next = 0 }
+
+abbrev pub emptyClock : OwnClock
+emptyClock = record { last = Never; samples = Empty }
+
+-- without announcement, samples and echo
+abbrev pub silenced : Port → Port
+silenced port = record { last = port .last; heard = Silent; samples = Empty; pair = port .pair; echo = Unset; next = port .next }
+
+-- Age on one port: an announcement that was heard a timeout ago or longer goes, with samples and echo
+abbrev pub agedBy : Heard → LocalTime → ℕ → Port → Port
+agedBy Silent at timeout port = port
+agedBy (Said precedence hop when) at timeout port = cond (ltb (sinceOf at when) timeout) port (silenced port)
+
+unfoldable pub agedPort : LocalTime → ℕ → Port → Port
+agedPort at timeout port = agedBy (port .heard) at timeout port
+
+-- Send on one port: its next frameCount is used up
+abbrev pub usedPort : Port → Port
+usedPort port = record { last = port .last; heard = port .heard; samples = port .samples; pair = port .pair; echo = port .echo; next = nextCount (port .next) }

@@ -1,0 +1,70 @@
+-- Send, on one record: the frame for the chosen clock, or why there is none.
+use Prim.Native.Nat.{ℕ}
+use mathlib.Core.List.{List}
+use Rattle.frame.specs.Write.{unwritten, writtenOf}
+use Rattle.times.specs.Sent.{sentOf, sentNo}
+use Rattle.times.specs.declared.LocalTime.{LocalTime}
+use Rattle.times.specs.declared.GrandTime.{GrandTime}
+use Rattle.times.specs.declared.ErrorTime.{ErrorTime}
+use Rattle.times.specs.declared.Samples.{Samples}
+use Rattle.times.specs.declared.Stamps.{Stamps}
+use Rattle.times.specs.declared.Stamps.the-variants.{Unset, Set}
+use Rattle.times.specs.declared.Sent.{Sent}
+use Rattle.times.specs.declared.Sent.the-variants.{At, Few, Late, Beyond}
+use Rattle.frame.specs.declared.Mac.{Mac}
+use Rattle.frame.specs.declared.Precedence.{Precedence}
+use Rattle.frame.specs.declared.Fields.{Fields}
+use Rattle.port.specs.declared.Port.{Port}
+use Rattle.port.specs.declared.Choice.{Choice}
+use Rattle.port.specs.declared.Choice.the-variants.{Nothing, Clock}
+use Rattle.port.specs.declared.Sending.{Sending}
+use Rattle.port.specs.declared.Sending.the-variants.{Refused, Frame}
+
+-- the echo's two times, zeros where there is none
+abbrev pub echoTx : Stamps → LocalTime
+echoTx Unset = record { 0 = 0 }
+echoTx (Set local p) = local
+
+abbrev pub echoRx : Stamps → LocalTime
+echoRx Unset = record { 0 = 0 }
+echoRx (Set local p) = p
+
+-- the fields of a frame for a clock with this precedence and held hop
+abbrev pub frameOf : Mac → Precedence → ℕ → LocalTime → GrandTime → ErrorTime → Port → Fields
+frameOf mac precedence hop t grand error port = record {
+  sa = mac;
+  precedence = precedence;
+  hop = hop;
+  count = port .next;
+  grand = grand;
+  local = t;
+  tx = echoTx (port .echo);
+  rx = echoRx (port .echo);
+  error = error;
+}
+
+-- 11 to 13 by the sent grand time
+abbrev pub sendingBy : Sent → Mac → Precedence → ℕ → LocalTime → Port → Sending
+sendingBy (At grand error) mac precedence hop t port = Frame (frameOf mac precedence hop t grand error port)
+sendingBy Few mac precedence hop t port = Refused (sentNo Few)
+sendingBy Late mac precedence hop t port = Refused (sentNo Late)
+sendingBy Beyond mac precedence hop t port = Refused (sentNo Beyond)
+
+-- 10 where no clock is chosen; else by the samples of the chosen clock
+unfoldable pub sendingOf : Choice → Samples → Mac → ℕ → LocalTime → Port → Sending
+sendingOf Nothing samples mac back t port = Refused 10
+sendingOf (Clock precedence hop number) samples mac back t port = sendingBy (sentOf samples t back) mac precedence hop t port
+
+-- the answer's number
+abbrev pub sendingNo : Sending → ℕ
+sendingNo (Refused k) = k
+sendingNo (Frame f) = 0
+
+-- the answer and the output's bytes, by Write where there is a frame
+abbrev pub deliveredNo : Sending → ℕ → ℕ
+deliveredNo (Refused k) room = k
+deliveredNo (Frame f) room = unwritten f room
+
+abbrev pub deliveredBytes : Sending → List ℕ → List ℕ
+deliveredBytes (Refused k) out = out
+deliveredBytes (Frame f) out = writtenOf f out
