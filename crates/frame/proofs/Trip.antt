@@ -54,6 +54,7 @@ rows-joined s t b a =
     ∙ joined-parted widths 0 s t b (omega (arith, a .sized))
     ∙ ap (λ (l : List ℕ). l ++ t) (take-all frameLength s (omega (arith, a .sized)))
 
+-- the fields of an accepted frame are written, and give its bytes
 pub read-written : (s out : List ℕ) (f : Fields) → Bytes s → readOf s ≡ Frame f → frameLength ≤ length out
     → (unwritten f (length out) ≡ 0) × (writtenOf f out ≡ s ++ drop frameLength out)
 read-written s out f b e r =
@@ -87,23 +88,29 @@ pub record Typed (f : Fields) : Type 0 where
 values-held : (f : Fields) (n : ℕ) → Typed f → Written f n → Held widths (valuesOf f)
 values-held f n t w = omega arith
 
+-- the first 64 bytes of what is written are the rows of the fields
+written-first : (f : Fields) (out : List ℕ) → Held widths (valuesOf f) → unwritten f (length out) ≡ 0
+    → take frameLength (writtenOf f out) ≡ joined widths (valuesOf f) []
+written-first f out h e =
+    ap (take frameLength) (sym (filled f 0 out (sym e) refl) ∙ joined-append widths (valuesOf f) (drop frameLength out))
+    ∙ take-at (joined widths (valuesOf f) []) (drop frameLength out) frameLength (length-joined widths (valuesOf f) [] h)
+
+-- fields that are written are what is read of the first 64 bytes
 pub written-read : (f : Fields) (out : List ℕ) → Typed f → unwritten f (length out) ≡ 0 → readOf (take frameLength (writtenOf f out)) ≡ Frame f
 written-read f out t e =
-    let h = values-held f (length out) t (in-range f (length out) e) in
     let vs = valuesOf f in
+    let h : Held widths vs = values-held f (length out) t (in-range f (length out) e) in
     let s = joined widths vs [] in
-    let l : length s ≡ frameLength = length-joined widths vs [] h in
     let rows : rowsOf s ≡ vs = parted-joined widths vs [] [] 0 refl h in
-    let first : take frameLength (writtenOf f out) ≡ s =
-    ap (take frameLength) (sym (filled f 0 out (sym e) refl) ∙ joined-append widths vs (drop frameLength out))
-    ∙ take-at s (drop frameLength out) frameLength l in
-    ap readOf first ∙ sym (framed 0 s (by-rows s vs l (sym rows)) refl) ∙ ap (λ (v : List ℕ). Frame (fieldsOf v)) rows
+    ap readOf (written-first f out h e)
+    ∙ sym (framed 0 s (by-rows s vs (length-joined widths vs [] h) (sym rows)) refl)
+    ∙ ap (λ (v : List ℕ). Frame (fieldsOf v)) rows
 
 -- ---- precedence
 
 -- where the layout puts precedence, and how many bytes a frame has
-pub layout : (total (take 10 widths) ≡ precedenceStart) × (total (take 5 (drop 10 widths)) ≡ precedenceBytes) × (total widths ≡ frameLength)
-layout = (refl, refl, refl)
+pub precedence-place : (total (take 10 widths) ≡ precedenceStart) × (total (take 5 (drop 10 widths)) ≡ precedenceBytes) × (total widths ≡ frameLength)
+precedence-place = (refl, refl, refl)
 
 -- the number of 104 bits is the one that the 13 bytes make
 pub precedence-number : (s : List ℕ) (f : Fields) → readOf s ≡ Frame f → precedenceOf (f .precedence) ≡ numberAt s precedenceStart precedenceBytes

@@ -1,34 +1,48 @@
 -- Laws of the records: one for each case of a definition, and that every step keeps a record lawful.
 use mathlib.Core.Path.{_≡_, refl, sym, ap, _∙_, subst}
 use mathlib.Core.Bool.{Bool, true, false, cond}
+use mathlib.Core.List.{List}
 use Prim.Native.Nat.{ℕ, _+_, _*_, _<_, _≤_}
 use native.Mathlib.Omega.{arith}
 use borrow.Author.Tests.{lt-ltb, le-ltb, ltb-true, ltb-false, eq-eqb, ne-eqb}
 use lib.Dec.{ltb, eqb}
+use lib.ListN.{length}
+use Rattle.numbers.specs.Table.{Held}
+use Rattle.numbers.proofs.Places.{Bytes}
+use Rattle.numbers.proofs.Table.{held-at, held-parted}
 use Rattle.times.specs.Times.{circle, sinceOf, InRange, earlierBy, nextCount}
 use Rattle.times.specs.Keep.{LawfulSamples, keptOf}
 use Rattle.times.specs.Hop.{lastHop, hopOf}
 use Rattle.times.specs.Delay.{linkDelayOf}
 use Rattle.times.specs.Rate.{neighbourRateOf}
 use Rattle.times.proofs.KeepLaws.{kept-lawful}
+use Rattle.times.proofs.SentLaws.{sent-range}
 use Rattle.times.specs.declared.LocalTime.{LocalTime}
 use Rattle.times.specs.declared.GrandTime.{GrandTime}
 use Rattle.times.specs.declared.Samples.{Samples}
+use Rattle.times.specs.declared.Stamps.{Stamps}
+use Rattle.times.specs.declared.Stamps.the-variants.{Unset, Set}
 use Rattle.times.specs.declared.Sent.{Sent}
+use Rattle.times.specs.declared.Sent.the-variants.{At, Few, Late, Beyond}
 use Rattle.times.specs.Sent.{sentOf}
 use Rattle.times.specs.declared.DelaySetting.{DelaySetting}
 use Rattle.times.specs.declared.Delay.{Delay}
 use Rattle.times.specs.declared.Delay.the-variants.{Is, TooLong}
+use Rattle.frame.specs.Frame.{frameLength, widths}
+use Rattle.frame.specs.Read.{rowsOf, readOf}
+use Rattle.frame.specs.Write.{unwritten}
+use Rattle.frame.specs.declared.Reading.the-variants as Frames
+use Rattle.frame.proofs.FrameLaws.{accepted, reading, unrefused}
 use Rattle.frame.specs.Precedence.{keyOf}
 use Rattle.frame.specs.declared.Precedence.{Precedence}
 use Rattle.frame.specs.declared.Fields.{Fields}
 use Rattle.frame.specs.declared.Mac.{Mac}
 use Rattle.port.specs.Record.{silenced, agedBy, agedPort, emptyPort, usedPort}
-use Rattle.port.specs.Lawful.{LawfulLast, LawfulPort, LawfulClock, FieldsInRange}
+use Rattle.port.specs.Lawful.{LawfulLast, LawfulStamps, LawfulPort, LawfulClock, FieldsInRange}
 use Rattle.port.specs.Own.{storedAs, ownSample, toldBy, toldOf}
 use Rattle.port.specs.Receive.{sampleOf, sameClock, refusedBy, takenPort, delayedBy, followedBy, countedBy, receivedOf}
 use Rattle.port.specs.Choose.{rankOf}
-use Rattle.port.specs.Send.{sendingBy, sendingOf}
+use Rattle.port.specs.Send.{echoTx, echoRx, frameOf, sendingBy, sendingOf}
 use Rattle.port.specs.declared.Choice.{Choice}
 use Rattle.port.specs.declared.Choice.the-variants.{Nothing, Clock}
 use Rattle.port.specs.declared.Sending.the-variants.{Refused, Frame}
@@ -140,6 +154,44 @@ module _ (choice : Choice) (samples : Samples) (mac : Mac) (back : ℕ) (t : Loc
   unfolding sendingOf
   send-by {p} {h} {n} e g =
       ap (λ (x : Sent). sendingBy x mac p h t port) g ∙ ap (λ (x : Choice). sendingOf x samples mac back t port) (sym e)
+
+-- a frame to be sent has its times in range
+pub sending-written : (choice : Choice) (samples : Samples) (mac : Mac) (back : ℕ) (t : LocalTime) (port : Port) (room : ℕ) (f : Fields)
+    → t .0 < circle → LawfulPort port → frameLength ≤ room → sendingOf choice samples mac back t port ≡ Frame f → unwritten f room ≡ 0
+unfolding sendingOf
+sending-written Nothing samples mac back t port room f ht l r e = let z : _≡_ {A = ℕ} 0 1 = cc in absurd (omega arith)
+sending-written (Clock p h n) samples mac back t port room f ht l r e = by (sentOf samples t back) refl e
+  where
+    tx-small : (s : Stamps) → LawfulStamps s → echoTx s .0 < circle
+    tx-small Unset q = omega arith
+    tx-small (Set a b) q = q .0
+
+    rx-small : (s : Stamps) → LawfulStamps s → echoRx s .0 < circle
+    rx-small Unset q = omega arith
+    rx-small (Set a b) q = q .1
+
+    by : (s : Sent) → sentOf samples t back ≡ s → sendingBy s mac p h t port ≡ Frame f → unwritten f room ≡ 0
+    by (At g x) k e =
+        let same : frameOf mac p h t g x port ≡ f = cc in
+        let w = sent-range samples t back g x k in
+        subst (λ (f : Fields). unwritten f room ≡ 0) same
+        (unrefused (frameOf mac p h t g x port) room
+        (record { seconds = w .seconds; fraction = w .fraction; local = ht; tx = tx-small (port .echo) (l .echo); rx = rx-small (port .echo) (l .echo); room = r }))
+    by Few k e = let z : _≡_ {A = ℕ} 0 1 = cc in absurd (omega arith)
+    by Late k e = let z : _≡_ {A = ℕ} 0 1 = cc in absurd (omega arith)
+    by Beyond k e = let z : _≡_ {A = ℕ} 0 1 = cc in absurd (omega arith)
+
+-- the times of a frame that was read are in range
+pub read-in-range : (s : List ℕ) (f : Fields) → Bytes s → readOf s ≡ Frames.Frame f → FieldsInRange f
+read-in-range s f b e =
+    let r = reading s f e in
+    let len : length s ≡ frameLength = accepted s (r .0) .sized in
+    let h : Held widths (rowsOf s) = held-parted widths 0 s b (omega arith) in
+    subst FieldsInRange (r .1)
+    (record {
+      grand = record { seconds = held-at widths (rowsOf s) 18 h (omega arith); fraction = held-at widths (rowsOf s) 19 h (omega arith) };
+      local = held-at widths (rowsOf s) 20 h (omega arith);
+    })
 
 -- ---- every step keeps a record lawful
 

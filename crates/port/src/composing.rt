@@ -22,8 +22,11 @@ use times::sending;
 
 // The refusals of a send that has a port, a link and room.
 const NO_CLOCK: u8 = 10;
+
 const FEW_SAMPLES: u8 = 11;
+
 const TOO_LATE: u8 = 12;
+
 const BEYOND_RANGE: u8 = 13;
 
 // The neighbour's time in an echo, 0 where there is none.

@@ -23,7 +23,9 @@ use times::local;
 
 // The refusals of a frame that was read.
 const LAST_HOP_HEARD: u8 = 7;
+
 const NOT_NEXT: u8 = 8;
+
 const DELAY_TOO_LONG: u8 = 9;
 
 // Whether an announcement is of the clock with this precedence.
@@ -113,13 +115,7 @@ pub fn followed(
 }
 
 // A frame that was read, on a port with this setting, where the chosen clock's held hop is `chosen`.
-pub fn received(
-    port: Port,
-    setting: DelaySetting,
-    chosen: u8,
-    f: Fields,
-    at: LocalTime,
-) -> Received
+pub fn received(port: Port, setting: DelaySetting, chosen: u8, f: Fields, at: LocalTime) -> Received
     requires { ⌜ LawfulPort port ⌝ }
     requires { ⌜ FieldsInRange f ⌝ }
     ensures { λ r. ⌜ r ≡ receivedOf setting chosen f at port ⌝ }

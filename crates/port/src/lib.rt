@@ -1,9 +1,10 @@
 // One port's record and the own clock's, and what each event makes of them.
 pub mod ageing;
+pub mod composing;
 pub mod hearing;
 pub mod ranking;
-pub mod composing;
 pub mod telling;
+
 use frame::Fields;
 use frame::Precedence;
 use times::DelaySetting;

@@ -50,13 +50,7 @@ pub fn better(a: Choice, b: Choice) -> Choice
         Choice::Nothing => b,
         Choice::Clock(p, h, i) => match b {
             Choice::Nothing => a,
-            Choice::Clock(q, k, j) => {
-                if outranks(q, k, j, p, h, i) {
-                    b
-                } else {
-                    a
-                }
-            }
+            Choice::Clock(q, k, j) => { if outranks(q, k, j, p, h, i) { b } else { a } }
         },
     }
 }

@@ -1,15 +1,20 @@
 -- The part of the frame that wins.
 use mathlib.Core.Path.{_≡_, sym, _∙_}
 use native.Mathlib.Omega.{arith}
-use Rattle.frame.specs.Better.{standingOf, winnerOf, pieceBy}
-use Rattle.frame.proofs.FrameLaws.{first-sized, second-sized}
 use borrow.Author.Needs.{needs}
+use Rattle.frame.specs.Better.{standingOf, winnerOf, pieceBy, betterOf}
+use Rattle.frame.specs.declared.Winner.{Winner}
+use Rattle.frame.proofs.FrameLaws.{first-sized, second-sized}
 use Rattle.frame.proofs.choosing.better.Statement.{statement}
 use Rattle.frame.proofs.choosing.better.Tie as tie
 
 -- the winner, by how the two frames stand
 won : (c : tie.After-winner) → c .winner .result ≡ winnerOf (standingOf (c .before .before .before .before .before .args .a .now)) (standingOf (c .before .before .before .before .before .args .b .now))
 won c = c .winner .ensures ∙ (λ i. winnerOf (c .before .before .standing .ensures i) (c .before .standing2 .ensures i))
+
+-- the part that is handed back, by the winner
+part : (c : tie.After-winner) {w : Winner} → c .winner .result ≡ w → pieceBy w (c .before .before .before .before .before .args .a) (c .before .before .before .before .before .args .b) ≡ betterOf (c .before .before .before .before .before .args .a) (c .before .before .before .before .before .args .b)
+part c e = let a = c .before .before .before .before .before .args in λ i. pieceBy ((sym e ∙ won c) i) (a .a) (a .b)
 
 standing-requires : tie.Need-standing-requires
 standing-requires c κs = search needs
@@ -57,19 +62,13 @@ part-result-end-3 : tie.Need-part-result-end-3
 part-result-end-3 c = omega (arith, second-sized _ _ (sym (c .enum-told3 .given .1) ∙ won (c .before .before)))
 
 returns : tie.Need-returns
-returns c =
-    let a = c .before .before .before .before .before .before .before .before .args in
-    λ i. pieceBy ((sym (c .before .enum-told .given .1) ∙ won (c .before .before .before)) i) (a .a) (a .b)
+returns c = part (c .before .before .before) (c .before .enum-told .given .1)
 
 returns-2 : tie.Need-returns-2
-returns-2 c =
-    let a = c .before .before .before .before .before .before .before .before .args in
-    λ i. pieceBy ((sym (c .before .enum-told2 .given .1) ∙ won (c .before .before .before)) i) (a .a) (a .b)
+returns-2 c = part (c .before .before .before) (c .before .enum-told2 .given .1)
 
 returns-3 : tie.Need-returns-3
-returns-3 c =
-    let a = c .before .before .before .before .before .before .before .before .args in
-    λ i. pieceBy ((sym (c .before .enum-told3 .given .1) ∙ won (c .before .before .before)) i) (a .a) (a .b)
+returns-3 c = part (c .before .before .before) (c .before .enum-told3 .given .1)
 
 pub better-spec : {M : Type 1} → statement M
 better-spec =

@@ -1,9 +1,9 @@
 -- What is refused loses, and what is read stands by its hop.
 use mathlib.Core.Path.{_≡_, sym, _∙_}
+use borrow.Author.Needs.{needs}
 use Rattle.frame.specs.Read.{readOf}
 use Rattle.frame.specs.declared.Reading.the-variants.{Frame}
 use Rattle.frame.proofs.FrameLaws.{refused-loses, last-loses, other-stands}
-use borrow.Author.Needs.{needs}
 use Rattle.frame.proofs.choosing.standing.Statement.{statement}
 use Rattle.frame.proofs.choosing.standing.Tie as tie
 

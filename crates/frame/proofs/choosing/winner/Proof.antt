@@ -1,7 +1,7 @@
 -- A frame that loses to the other, or the lesser key.
 use mathlib.Core.Path.{sym, _∙_}
-use Rattle.frame.specs.Better.{winnerOf}
 use borrow.Author.Needs.{needs}
+use Rattle.frame.specs.Better.{winnerOf}
 use Rattle.frame.proofs.FrameLaws.{by-key}
 use Rattle.frame.proofs.choosing.winner.Statement.{statement}
 use Rattle.frame.proofs.choosing.winner.Tie as tie

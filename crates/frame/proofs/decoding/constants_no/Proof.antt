@@ -1,8 +1,8 @@
 -- The tests answer one by one, in the order of the definition.
 use mathlib.Core.Path.{refl}
 use borrow.Author.Tests.{eq-eqb, ne-eqb}
-use Rattle.frame.proofs.FrameLaws.{past, stopped}
 use borrow.Author.Needs.{needs}
+use Rattle.frame.proofs.FrameLaws.{past, stopped}
 use Rattle.frame.proofs.decoding.constants_no.Statement.{statement}
 use Rattle.frame.proofs.decoding.constants_no.Tie as tie
 

@@ -1,9 +1,9 @@
 -- Each row fits the type of its field.
 use lib.Dec.{lit<}
 use lib.ListN.{getD}
+use borrow.Author.Needs.{needs}
 use Rattle.numbers.proofs.Table.{held-at}
 use Rattle.frame.specs.Frame.{widths}
-use borrow.Author.Needs.{needs}
 use Rattle.frame.proofs.decoding.fields.Statement.{statement}
 use Rattle.frame.proofs.decoding.fields.Tie as tie
 

@@ -1,8 +1,8 @@
 -- Each row of the address holds a byte.
 use lib.Dec.{lit<}
+use borrow.Author.Needs.{needs}
 use Rattle.numbers.proofs.Table.{held-at}
 use Rattle.frame.specs.Frame.{widths}
-use borrow.Author.Needs.{needs}
 use Rattle.frame.proofs.decoding.mac.Statement.{statement}
 use Rattle.frame.proofs.decoding.mac.Tie as tie
 

@@ -1,8 +1,8 @@
 -- Each row of precedence fits the type of its part.
 use lib.Dec.{lit<}
+use borrow.Author.Needs.{needs}
 use Rattle.numbers.proofs.Table.{held-at}
 use Rattle.frame.specs.Frame.{widths}
-use borrow.Author.Needs.{needs}
 use Rattle.frame.proofs.decoding.precedence.Statement.{statement}
 use Rattle.frame.proofs.decoding.precedence.Tie as tie
 

@@ -3,12 +3,12 @@ use mathlib.Core.Path.{_≡_, ap, _∙_}
 use mathlib.Core.List.{List}
 use Prim.Native.Nat.{ℕ}
 use native.Mathlib.Omega.{arith}
+use borrow.Author.Needs.{needs}
 use Rattle.frame.specs.Frame.{fieldsOf}
 use Rattle.frame.specs.Read.{refusalOf}
 use Rattle.frame.specs.declared.Fields.{Fields}
 use Rattle.frame.specs.declared.Reading.the-variants.{Frame}
 use Rattle.frame.proofs.FrameLaws.{short, by-rows, refused, framed}
-use borrow.Author.Needs.{needs}
 use Rattle.frame.proofs.decoding.read.Statement.{statement}
 use Rattle.frame.proofs.decoding.read.Tie as tie
 

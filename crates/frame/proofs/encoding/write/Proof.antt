@@ -1,12 +1,12 @@
 -- A refusal leaves the output; else the rows fill its first 64 bytes.
 use mathlib.Core.Path.{sym, ap, _∙_}
-use Prim.Native.Nat.{ℕ}
 use mathlib.Core.List.{List}
+use Prim.Native.Nat.{ℕ}
 use lib.ListN.{length, drop}
+use borrow.Author.Needs.{needs}
 use Rattle.numbers.specs.Table.{joined}
 use Rattle.frame.specs.Frame.{frameLength, widths}
 use Rattle.frame.proofs.FrameLaws.{in-range, filled, untouched}
-use borrow.Author.Needs.{needs}
 use Rattle.frame.proofs.encoding.write.Statement.{statement}
 use Rattle.frame.proofs.encoding.write.Tie as tie
 

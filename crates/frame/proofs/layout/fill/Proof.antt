@@ -3,7 +3,6 @@ use mathlib.Core.Path.{_≡_, refl, sym, ap, _∙_}
 use mathlib.Core.List.{List, _++_}
 use Prim.Native.Nat.{ℕ, _+_, _-_, _≤_}
 use native.Mathlib.Omega.{arith}
-use borrow.Author.Needs.{needs}
 use lib.ListN.{length, take, drop, getD, take-append-drop}
 use Rattle.numbers.specs.Digits.{spliced}
 use Rattle.numbers.specs.Table.{total, joined}
@@ -22,7 +21,7 @@ abbrev μ-loop : tie.MeasureT-loop
 
 loop-holds : tie.Need-loop-holds Inv-loop μ-loop
 unfolding joined
-loop-holds c = (omega arith, search needs, refl, search needs, refl, sym (take-append-drop frameLength (c .before .args .out .now)))
+loop-holds c = (omega arith, omega arith, refl, omega arith, refl, sym (take-append-drop frameLength (c .before .args .out .now)))
 
 -- the room for the row before k
 room : (c : tie.In-loop Inv-loop μ-loop) → getD widths (c .before .loop .k - 1) 0 ≤ c .before .loop .at

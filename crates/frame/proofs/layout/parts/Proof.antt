@@ -2,7 +2,6 @@
 use mathlib.Core.Path.{_≡_, refl}
 use Prim.Native.Nat.{_+_, _-_, _≤_}
 use native.Mathlib.Omega.{arith}
-use borrow.Author.Needs.{needs}
 use lib.ListN.{length, drop, getD, length-set}
 use Rattle.numbers.specs.Table.{total, parted, Held}
 use Rattle.numbers.proofs.Table.{row-room, row-end, parted-step, held-step, at-most-widest}
@@ -20,20 +19,20 @@ abbrev μ-loop : tie.MeasureT-loop
 
 loop-holds : tie.Need-loop-holds Inv-loop μ-loop
 unfolding parted
-loop-holds c = (refl, search needs, refl, refl, tt)
+loop-holds c = (refl, omega arith, refl, refl, tt)
 
 -- the room for the row before k
 room : (c : tie.In-loop Inv-loop μ-loop) → getD widths (c .before .loop .k - 1) 0 ≤ c .before .loop .at
 room c = let l = c .before .loop in row-room widths (l .at) (l .k) (c .loop-test .taken) (l .inv .1) (l .inv .2)
 
 sub-k : tie.Need-sub-k Inv-loop μ-loop
-sub-k c = search needs
+sub-k c = omega arith
 
 mul-n : tie.Need-mul-n Inv-loop μ-loop
-mul-n c = search needs
+mul-n c = omega arith
 
 array-read-n : tie.Need-array-read-n Inv-loop μ-loop
-array-read-n c = search needs
+array-read-n c = omega arith
 
 sub-at : tie.Need-sub-at Inv-loop μ-loop
 sub-at c = room c
@@ -42,13 +41,13 @@ number-at-requires : tie.Need-number-at-requires Inv-loop μ-loop
 number-at-requires c κs = (at-most-widest widths (c .before .loop .k - 1), omega (arith, room c, c .before .loop .inv .2, c .before .before .before .pre))
 
 mul-values : tie.Need-mul-values Inv-loop μ-loop
-mul-values c = search needs
+mul-values c = omega arith
 
 array-write-values : tie.Need-array-write-values Inv-loop μ-loop
-array-write-values c = search needs
+array-write-values c = omega arith
 
 loop-less : tie.Need-loop-less Inv-loop μ-loop
-loop-less c = search needs
+loop-less c = omega arith
 
 loop-again : tie.Need-loop-again Inv-loop μ-loop
 loop-again c =

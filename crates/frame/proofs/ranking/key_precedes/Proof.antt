@@ -2,9 +2,9 @@
 use mathlib.Core.Path.{sym, _∙_}
 use native.Mathlib.Omega.{arith}
 use borrow.Author.Tests.{ltb-true, ltb-false}
+use borrow.Author.Needs.{needs}
 use Rattle.numbers.proofs.Pairs.{first-less, first-more, first-same}
 use Rattle.frame.specs.Precedence.{precedenceOf, keyOf}
-use borrow.Author.Needs.{needs}
 use Rattle.frame.proofs.ranking.key_precedes.Statement.{statement}
 use Rattle.frame.proofs.ranking.key_precedes.Tie as tie
 

@@ -1,9 +1,9 @@
 -- The 40 bits above the clock decide, and then the clock.
 use Prim.Native.Nat.{_^_}
 use native.Mathlib.Omega.{arith}
+use borrow.Author.Needs.{needs}
 use Rattle.numbers.proofs.Pairs.{first-less, first-more, first-same}
 use Rattle.frame.specs.Precedence.{highOf, precedenceOf}
-use borrow.Author.Needs.{needs}
 use Rattle.frame.proofs.ranking.precedes.Statement.{statement}
 use Rattle.frame.proofs.ranking.precedes.Tie as tie
 

@@ -38,7 +38,8 @@ wide-requires c κs = search needs
 
 add-v : tie.Need-add-v Inv-loop μ-loop
 add-v c =
-    record { fits = fits (c .before .before) (c .wide .result) (omega (arith, c .before .shared-slice-known2 .given (c .before .before .before .loop .i))) }
+    let b = c .before .shared-slice-known2 .given (c .before .before .before .loop .i) in
+    omega (arith, fits (c .before .before) (c .wide .result) (omega arith))
 
 add-i : tie.Need-add-i Inv-loop μ-loop
 add-i c = search needs

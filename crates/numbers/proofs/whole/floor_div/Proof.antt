@@ -43,6 +43,14 @@ reads-pos c = back (c .before .args .z) (c .before .fits .z) ∙ pos-is c
 flipped : (c : tie.Then1) → negsuc 0 -ℤ toZ w64 (ofZ w64 (c .before .args .z)) ≡ pos (size (c .before))
 flipped c = ap (λ (y : ℤ). negsuc 0 -ℤ y) (reads-neg c) ∙ flip-neg (size (c .before))
 
+returns : tie.Need-returns
+returns c =
+    rw (flipped c, backN (size (c .before)) (below (c .before)), backN _ (part (c .before)), flip-pos, back (negsuc _) (sfits (part (c .before))))
+    (sym (ap (λ (y : ℤ). floorDiv y (c .before .args .m)) (neg-is c)))
+
+returns-2 : tie.Need-returns-2
+returns-2 c = rw (reads-pos c, backN _ (part (c .before))) (sym (ap (λ (y : ℤ). floorDiv y (c .before .args .m)) (pos-is c)))
+
 sub-result : tie.Need-sub-result
 sub-result c = rw (flipped c) (sfits (below (c .before)))
 
@@ -66,14 +74,6 @@ div-result-2 c = search needs
 
 cast-result-4 : tie.Need-cast-result-4
 cast-result-4 c = rw (reads-pos c) (sfits (part (c .before)))
-
-returns : tie.Need-returns
-returns c =
-    rw (flipped c, backN (size (c .before)) (below (c .before)), backN _ (part (c .before)), flip-pos, back (negsuc _) (sfits (part (c .before))))
-    (sym (ap (λ (y : ℤ). floorDiv y (c .before .args .m)) (neg-is c)))
-
-returns-2 : tie.Need-returns-2
-returns-2 c = rw (reads-pos c, backN _ (part (c .before))) (sym (ap (λ (y : ℤ). floorDiv y (c .before .args .m)) (pos-is c)))
 
 pub floor-div-spec : {M : Type 1} → statement M
 floor-div-spec =

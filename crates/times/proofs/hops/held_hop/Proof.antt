@@ -1,5 +1,6 @@
 -- Each arm is a case of the held hop.
 use borrow.Author.Needs.{needs}
+use native.Mathlib.Omega.{arith}
 use Rattle.times.proofs.HopLaws.{hop-jump, hop-step}
 use Rattle.times.proofs.hops.held_hop.Statement.{statement}
 use Rattle.times.proofs.hops.held_hop.Tie as tie
@@ -14,10 +15,10 @@ add-result-2 : tie.Need-add-result-2
 add-result-2 c = search needs
 
 returns : tie.Need-returns
-returns c = hop-jump _ _ (c .if1 .taken)
+returns c = hop-jump _ _ (omega arith)
 
 returns-2 : tie.Need-returns-2
-returns-2 c = hop-step _ _ (c .if1 .left)
+returns-2 c = hop-step _ _ (omega arith)
 
 pub held-hop-spec : {M : Type 1} → statement M
 held-hop-spec = tie.close (tie.spec sub-result add-result add-result-2 returns returns-2)

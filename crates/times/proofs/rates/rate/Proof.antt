@@ -26,7 +26,8 @@ returns c =
     let p = c .before in
     got (c .floor-div .ok)
     (c .floor-div .ensures
-    ∙ ap (λ (z : ℤ). floorDiv z (p .before .args .s)) (got (p .product .ok) (p .product .ensures ∙ ap (λ (d : ℤ). d *ℤ pos one) (gain-is (p .before)))))
+    ∙ ap (λ (z : ℤ). floorDiv z (p .before .args .s))
+    (got (p .product .ok) (p .product .ensures ∙ ap (λ (z : ℤ). z *ℤ pos one) (gain-is (p .before)))))
 
 pub rate-spec : {M : Type 1} → statement M
 rate-spec = tie.close (tie.spec product-requires floor-div-requires returns)

@@ -1,0 +1,5 @@
+pub mod Walk
+pub mod TableLaws
+pub mod CheckLaws
+pub mod StateLaws
+pub mod Keeps

@@ -1,0 +1,28 @@
+-- By whether there is such a port, and by its samples.
+use borrow.Author.Needs.{needs}
+use mathlib.Core.Path.{sym, ap, _∙_, subst}
+use Rattle.times.specs.Keep.{LawfulSamples}
+use Rattle.times.specs.Drift.{driftOf}
+use Rattle.bridge.proofs.TableLaws.{samples-lawful}
+use Rattle.bridge.proofs.StateLaws.{drift-refused, drift-done}
+use Rattle.bridge.proofs.drift.Statement.{statement}
+use Rattle.bridge.proofs.drift.Tie as tie
+
+returns : tie.Need-returns
+returns c = drift-refused _ _ (c .if1 .taken)
+
+samples-at-requires : tie.Need-samples-at-requires
+samples-at-requires c κs = search needs
+
+drift-requires : tie.Need-drift-requires
+drift-requires c κs =
+    let s = c .before .before .before .before .before in
+    subst LawfulSamples (sym (c .samples-at .ensures)) (samples-lawful _ (s .args .b .clock) (s .args .b .ports) (s .pre .clock-lawful) (s .pre .ports-lawful))
+
+returns-2 : tie.Need-returns-2
+returns-2 c =
+    let m = c .before in
+    drift-done _ _ _ (m .before .before .before .if1 .left) (c .drift .ensures ∙ ap driftOf (m .samples-at .ensures))
+
+pub drift-spec : {M : Type 1} → statement M
+drift-spec = tie.close (tie.spec returns samples-at-requires drift-requires returns-2)

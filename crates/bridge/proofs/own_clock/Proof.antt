@@ -1,0 +1,31 @@
+-- By the refusals over numbers, then by the own clock's record.
+use borrow.Author.Needs.{needs}
+use mathlib.Core.Path.{sym, _∙_}
+use Rattle.bridge.proofs.CheckLaws.{own-ready}
+use Rattle.bridge.proofs.StateLaws.{own-refused, own-done}
+use Rattle.bridge.proofs.Keeps.{out, own-lawful}
+use Rattle.bridge.proofs.own_clock.Statement.{statement}
+use Rattle.bridge.proofs.own_clock.Tie as tie
+
+own-no-requires : tie.Need-own-no-requires
+own-no-requires c κs = search needs
+
+returns : tie.Need-returns
+returns c =
+    let s = c .before .before in
+    out _ _ (own-refused _ _ _ _ _ _ (c .before .own-no .ensures) (c .if1 .taken)) (own-lawful _ _ _ _ _ (s .pre))
+
+told-requires : tie.Need-told-requires
+told-requires c κs =
+    let o = c .before .before in
+    let r = own-ready _ _ _ _ (sym (o .own-no .ensures) ∙ c .before .if1 .left) in
+    (o .before .pre .clock-lawful .samples, record { seconds = r .whole; fraction = r .part })
+
+returns-2 : tie.Need-returns-2
+returns-2 c =
+    let t = c .before in
+    let o = t .before .before .before in
+    out _ _ (own-done _ _ _ _ _ _ (o .own-no .ensures) (t .told .result) (t .before .before .if1 .left) (t .told .ensures)) (own-lawful _ _ _ _ _ (o .before .pre))
+
+pub own-clock-spec : {M : Type 1} → statement M
+own-clock-spec = tie.close (tie.spec own-no-requires returns told-requires returns-2)

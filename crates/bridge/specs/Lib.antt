@@ -1,0 +1,11 @@
+pub mod Table
+pub mod State
+pub mod Refusals
+pub mod Setup
+pub mod Links
+pub mod Own
+pub mod Receive
+pub mod Age
+pub mod Chosen
+pub mod Send
+pub mod Drift

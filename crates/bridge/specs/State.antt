@@ -1,0 +1,94 @@
+-- The state: what holds of every state that Setup or a call hands back, and the forms of the calls' promises.
+use mathlib.Core.Path.{_≡_}
+use mathlib.Core.List.{List}
+use Prim.Native.Nat.{ℕ, _^_, _<_, _≤_}
+use lib.ListN.{length, set}
+use Rattle.times.specs.Sent.{longestElapsed}
+use Rattle.port.specs.Lawful.{LawfulPort, LawfulClock}
+use Rattle.port.specs.declared.Port.{Port}
+use Rattle.port.specs.declared.OwnClock.{OwnClock}
+use Rattle.bridge.specs.Table.{portAt}
+use Rattle.bridge.specs.declared.Bridge.{Bridge}
+use Rattle.bridge.specs.declared.Done.{Done}
+use Rattle.bridge.specs.declared.Linked.{Linked}
+use Rattle.bridge.specs.declared.LinkCount.{LinkCount}
+
+-- the most ports
+abbrev pub mostPorts : ℕ
+mostPorts = 8
+
+pub record Lawful (b : Bridge) : Type 0 where
+  pub records : length (b .ports) ≡ mostPorts
+  pub delays : length (b .settings) ≡ mostPorts
+  pub ports-most : b .n ≤ mostPorts
+  pub links-most : b .links < 2 ^ b .n
+  pub back-small : b .back < longestElapsed
+  pub clock-lawful : LawfulClock (b .clock)
+  pub ports-lawful : (i : ℕ) → LawfulPort (portAt (b .ports) i)
+
+-- a state with other records, another own clock, other links
+abbrev pub withPorts : Bridge → List Port → Bridge
+withPorts b ports = record {
+  n = b .n;
+  mac = b .mac;
+  own = b .own;
+  capable = b .capable;
+  timeout = b .timeout;
+  back = b .back;
+  settings = b .settings;
+  links = b .links;
+  clock = b .clock;
+  ports = ports;
+}
+
+abbrev pub withPort : Bridge → ℕ → Port → Bridge
+withPort b i port = withPorts b (set (b .ports) i port)
+
+abbrev pub withClock : Bridge → OwnClock → Bridge
+withClock b clock = record {
+  n = b .n;
+  mac = b .mac;
+  own = b .own;
+  capable = b .capable;
+  timeout = b .timeout;
+  back = b .back;
+  settings = b .settings;
+  links = b .links;
+  clock = clock;
+  ports = b .ports;
+}
+
+abbrev pub withLinks : Bridge → ℕ → List Port → Bridge
+withLinks b mask ports = record {
+  n = b .n;
+  mac = b .mac;
+  own = b .own;
+  capable = b .capable;
+  timeout = b .timeout;
+  back = b .back;
+  settings = b .settings;
+  links = mask;
+  clock = b .clock;
+  ports = ports;
+}
+
+abbrev pub answers : ℕ → Bridge → Done
+answers k b = record { answer = k; next = b }
+
+abbrev pub linked : LinkCount → Bridge → Linked
+linked k b = record { answer = k; next = b }
+
+-- a call's promise: answer and next state are those wanted, and the state is lawful
+pub record Out (want got : Done) : Type 0 where
+  pub is : got ≡ want
+  pub lawful : Lawful (got .next)
+
+pub record LinksOut (want got : Linked) : Type 0 where
+  pub is : got ≡ want
+  pub lawful : Lawful (got .next)
+
+-- the same with a lent buffer
+pub record SendOut (want : Done) (filled : List ℕ) (got : Done) (left : List ℕ) : Type 0 where
+  pub is : got ≡ want
+  pub bytes : left ≡ filled
+  pub lawful : Lawful (got .next)

@@ -1,0 +1,315 @@
+// The bridge: a table of eight ports and the station's own clock, handed in and back by value, and the calls on it.
+pub mod checks;
+pub mod table;
+
+ghost use mathlib.Core.Path.{_≡_};
+ghost use Prim.Native.Nat.{_<_};
+ghost use lib.ListN.{length};
+ghost use Rattle.times.specs.Times.{circle};
+ghost use Rattle.port.specs.Lawful.{FieldsInRange};
+ghost use Rattle.bridge.specs.State.{Lawful, Out, LinksOut, SendOut};
+ghost use Rattle.bridge.specs.Setup.{freshOf, setupOf};
+ghost use Rattle.bridge.specs.Links.{linksOf};
+ghost use Rattle.bridge.specs.Own.{ownClockOf};
+ghost use Rattle.bridge.specs.Receive.{heardOf, receiveOf};
+ghost use Rattle.bridge.specs.Age.{ageOf};
+ghost use Rattle.bridge.specs.Chosen.{chosenOf};
+ghost use Rattle.bridge.specs.Send.{composedOf, usedOf, sendOf, sendBytes};
+ghost use Rattle.bridge.specs.Drift.{driftAt};
+use frame::Fields;
+use frame::Mac;
+use frame::Precedence;
+use frame::Reading;
+use frame::decoding;
+use port::Choice;
+use port::OwnClock;
+use port::Port;
+use port::Sending;
+use port::Setting;
+use port::ageing;
+use port::composing;
+use port::hearing;
+use port::ranking;
+use port::telling;
+use times::Drift;
+use times::GrandTime;
+use times::LocalTime;
+use times::drifting;
+
+// The refusals that this crate gives by itself.
+const BAD_SETUP: u8 = 1;
+
+// The default timeout, half a second, and the default backTime, 10 ms.
+pub const DEFAULT_TIMEOUT: u64 = 0x80_0000_0000;
+
+pub const DEFAULT_BACK: u64 = 10_995_116_278;
+
+// The whole state: what Setup was given, the links, the own clock's record and the ports' records.
+pub struct Bridge {
+    pub n: u8,
+    pub mac: Mac,
+    pub own: Precedence,
+    pub capable: bool,
+    pub timeout: u64,
+    pub back: u64,
+    pub settings: [Setting; 8],
+    pub links: u8,
+    pub clock: OwnClock,
+    pub ports: [Port; 8],
+}
+
+// What most calls answer, 0 for done, and the next state.
+pub struct Done {
+    pub answer: u8,
+    pub next: Bridge,
+}
+
+// What Links answers: how many ports have a link, or a refusal.
+pub enum LinkCount {
+    Refused,
+    Up(u8),
+}
+
+// Links' answer and the next state.
+pub struct Linked {
+    pub answer: LinkCount,
+    pub next: Bridge,
+}
+
+// A state with this setup, all links down and all records empty.
+pub fn fresh(
+    n: u8,
+    mac: Mac,
+    own: Precedence,
+    capable: bool,
+    timeout: u64,
+    back: u64,
+    settings: [Setting; 8],
+) -> Bridge
+    ensures { λ r. ⌜ r ≡ freshOf n mac own capable timeout back settings ⌝ }
+{
+    let clock = ageing::empty_clock();
+    let port = ageing::empty();
+    Bridge {
+        n: n,
+        mac: mac,
+        own: own,
+        capable: capable,
+        timeout: timeout,
+        back: back,
+        settings: settings,
+        links: 0,
+        clock: clock,
+        ports: [port; 8],
+    }
+}
+
+// Setup: 0 and the first state, or 1 and the state that stands for none, which has no port and no own clock.
+pub fn setup(
+    n: u8,
+    mac: Mac,
+    own: Precedence,
+    capable: bool,
+    timeout: u64,
+    back: u64,
+    settings: [Setting; 8],
+) -> Done
+    ensures { λ r. ⌜ Out (setupOf n mac own capable timeout back settings) r ⌝ }
+{
+    if checks::setup_fits(n, timeout, back, settings) {
+        return Done {
+            answer: 0,
+            next: fresh(n, mac, own, capable, timeout, back, settings),
+        };
+    }
+    let nobody = Mac(0, 0, 0, 0, 0, 0);
+    let least = Precedence {
+        priority1: 0,
+        source: 0,
+        variance: 0,
+        priority2: 0,
+        clock: 0,
+    };
+    Done {
+        answer: BAD_SETUP,
+        next: fresh(0, nobody, least, false, 0, 0, table::measured()),
+    }
+}
+
+// Links: the ports that have a link are the set bits of the mask; a port that loses its link loses its record.
+pub fn links(b: Bridge, mask: u8) -> Linked
+    requires { ⌜ Lawful b ⌝ }
+    ensures { λ r. ⌜ LinksOut (linksOf b mask) r ⌝ }
+{
+    if checks::beyond(b.n, mask) {
+        return Linked {
+            answer: LinkCount::Refused,
+            next: b,
+        };
+    }
+    let ports = b.ports;
+    let after = table::relinked(ports, b.links, mask);
+    let mut next = b;
+    next.ports = after;
+    next.links = mask;
+    Linked {
+        answer: LinkCount::Up(u8::count_ones(mask) as u8),
+        next: next,
+    }
+}
+
+// Own clock: a reading of it, whose grand time belongs to the local time of the preceding one.
+pub fn own_clock(b: Bridge, count: u8, seconds: u64, fraction: u64, at: u64) -> Done
+    requires { ⌜ Lawful b ⌝ }
+    ensures { λ r. ⌜ Out (ownClockOf b count seconds fraction at) r ⌝ }
+{
+    let refusal = checks::own_no(b.capable, seconds, fraction, at);
+    if refusal != 0 {
+        return Done {
+            answer: refusal,
+            next: b,
+        };
+    }
+    let clock = b.clock;
+    let told = telling::told(clock, count, GrandTime(seconds, fraction), LocalTime(at));
+    let after = told.clock;
+    let mut next = b;
+    next.clock = after;
+    Done {
+        answer: told.answer,
+        next: next,
+    }
+}
+
+// A frame that was read, on the port at index i.
+pub fn heard(b: Bridge, i: usize, f: Fields, at: LocalTime) -> Done
+    requires { ⌜ Lawful b ⌝ }
+    requires { ⌜ i < 8 ⌝ }
+    requires { ⌜ FieldsInRange f ⌝ }
+    ensures { λ r. ⌜ r ≡ heardOf b i f at ⌝ }
+{
+    let hop = ranking::chosen_hop(chosen(b));
+    let port = b.ports[i];
+    let setting = b.settings[i];
+    let delay = setting.delay;
+    let received = hearing::received(port, delay, hop, f, at);
+    let after = received.port;
+    let mut next = b;
+    next.ports[i] = after;
+    Done {
+        answer: received.answer,
+        next: next,
+    }
+}
+
+// Receive: a frame that arrived at a port.
+pub fn receive(b: Bridge, port: u8, frame: &[u8], arrival: u64) -> Done
+    requires { ⌜ Lawful b ⌝ }
+    ensures { λ r. ⌜ Out (receiveOf b port (now (frame .entry)) arrival) r ⌝ }
+{
+    let refusal = checks::port_no(b.n, b.links, port, arrival);
+    if refusal != 0 {
+        return Done {
+            answer: refusal,
+            next: b,
+        };
+    }
+    match decoding::read(frame) {
+        Reading::Refused(unread) => Done {
+            answer: unread,
+            next: b,
+        },
+        Reading::Frame(f) => heard(b, (port - 1) as usize, f, LocalTime(arrival)),
+    }
+}
+
+// Age: announcements as old as the timeout go, with samples and echo.
+pub fn age(b: Bridge, at: u64) -> Done
+    requires { ⌜ Lawful b ⌝ }
+    ensures { λ r. ⌜ Out (ageOf b at) r ⌝ }
+{
+    if checks::off_circle(at) {
+        return Done {
+            answer: checks::OUT_OF_RANGE,
+            next: b,
+        };
+    }
+    let ports = b.ports;
+    let after = table::aged(ports, LocalTime(at), b.timeout);
+    let mut next = b;
+    next.ports = after;
+    Done {
+        answer: 0,
+        next: next,
+    }
+}
+
+// Chosen: the best clock, or none.
+pub fn chosen(b: Bridge) -> Choice
+    requires { ⌜ Lawful b ⌝ }
+    ensures { λ r. ⌜ r ≡ chosenOf b ⌝ }
+{
+    let own = b.own;
+    let ports = b.ports;
+    table::best(ranking::own_candidate(b.capable, own), ports)
+}
+
+// The frame that the port at index i sends at t, or why it sends none.
+pub fn composed(b: Bridge, i: usize, t: LocalTime) -> Sending
+    requires { ⌜ Lawful b ⌝ }
+    requires { ⌜ i < 8 ⌝ }
+    ensures { λ r. ⌜ r ≡ composedOf b i t ⌝ }
+{
+    let choice = chosen(b);
+    let clock = b.clock;
+    let ports = b.ports;
+    let mac = b.mac;
+    let port = b.ports[i];
+    let samples = table::samples_of_choice(choice, clock, ports);
+    composing::composed(choice, samples, mac, b.back, t, port)
+}
+
+// The state once the port at index i has used up its next frameCount.
+pub fn used(b: Bridge, i: usize) -> Bridge
+    requires { ⌜ Lawful b ⌝ }
+    requires { ⌜ i < 8 ⌝ }
+    ensures { λ r. ⌜ r ≡ usedOf b i ⌝ }
+{
+    let port = b.ports[i];
+    let mut next = b;
+    next.ports[i] = ageing::used(port);
+    next
+}
+
+// Send: fills the output with the port's next frame, whose preceding one departed at t.
+pub fn send(b: Bridge, port: u8, t: u64, out: &mut [u8]) -> Done
+    requires { ⌜ Lawful b ⌝ }
+    ensures { λ r. ⌜ SendOut (sendOf b port t (length (now (out .entry)))) (sendBytes b port t (now (out .entry))) r (now (out .exit)) ⌝ }
+{
+    let refusal = checks::send_no(b.n, b.links, port, t, out.len());
+    if refusal != 0 {
+        return Done {
+            answer: refusal,
+            next: b,
+        };
+    }
+    let i = (port - 1) as usize;
+    let answer = composing::delivered(composed(b, i, LocalTime(t)), out);
+    Done {
+        answer: answer,
+        next: used(b, i),
+    }
+}
+
+// Drift: of the own clock, 0, or of a port.
+pub fn drift(b: Bridge, port: u8) -> Drift
+    requires { ⌜ Lawful b ⌝ }
+    ensures { λ r. ⌜ r ≡ driftAt b port ⌝ }
+{
+    if b.n < port {
+        return Drift::Refused;
+    }
+    let clock = b.clock;
+    let ports = b.ports;
+    drifting::drift(table::samples_at(port, clock, ports))
+}
