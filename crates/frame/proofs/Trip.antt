@@ -1,20 +1,21 @@
 -- The round trips: an accepted frame, read and written, has its bytes; fields that are written and read are those fields.
--- And precedence as one number is the number that its 13 bytes make where they stand.
+-- And where precedence, grand time and frameCount stand in a frame, as the numbers that their bytes make.
 use mathlib.Core.Path.{_≡_, refl, sym, ap, _∙_, subst}
-use mathlib.Core.List.{List, [], _∷_, _++_}
-use Prim.Native.Nat.{ℕ, _^_, _<_, _≤_}
+use mathlib.Core.List.{List, [], _∷_, _++_, append-assoc}
+use Prim.Native.Nat.{ℕ, _+_, _*_, _^_, _<_, _≤_}
 use native.Mathlib.Omega.{arith}
-use lib.Dec.{lit<}
-use lib.ListN.{length, take, drop, getD}
+use lib.Dec.{lit<, lit≤}
+use lib.ListN.{length, take, drop, getD, length-append}
 use lib.Seq.{take-all, take-at}
-use Rattle.numbers.specs.Digits.{numberAt}
+use Rattle.numbers.specs.Digits.{onto, numberAt, digits}
 use Rattle.numbers.specs.Table.{total, parted, joined, Held}
-use Rattle.numbers.proofs.Places.{Bytes, number-add}
-use Rattle.numbers.proofs.Table.{held-at, held-parted, length-joined, joined-append, joined-parted, parted-joined}
+use Rattle.numbers.proofs.Places.{Bytes, number-add, onto-append, onto-split, length-digits, value-digits}
+use Rattle.numbers.proofs.Table.{held-at, held-parted, length-joined, joined-append, joined-parted, parted-joined, drop-joined}
+use Rattle.times.specs.Times.{units, InRange}
 use Rattle.frame.specs.Precedence.{precedenceOf}
 use Rattle.frame.specs.Frame.{frameLength, widths, valuesOf, fieldsOf}
 use Rattle.frame.specs.Read.{rowsOf, readOf}
-use Rattle.frame.specs.Write.{unwritten, writtenOf}
+use Rattle.frame.specs.Write.{unwritten, bytesOf, writtenOf}
 use Rattle.frame.specs.Better.{precedenceStart, precedenceBytes}
 use Rattle.frame.specs.declared.Fields.{Fields}
 use Rattle.frame.specs.declared.Reading.the-variants.{Frame}
@@ -120,3 +121,34 @@ precedence-number s f e =
     let l = accepted s (q .0) .sized in
     ap (λ (g : Fields). precedenceOf (g .precedence)) (sym (q .1))
     ∙ omega (arith, number-add s 16 1 12 (omega arith), number-add s 17 1 11 (omega arith), number-add s 18 2 9 (omega arith), number-add s 20 1 8 (omega arith))
+
+-- ---- where a written frame has its grand time and its frameCount
+
+-- the rows from k on, in the bytes of a frame
+rows-from : (f : Fields) (t : List ℕ) (k : ℕ) → k ≤ 24 → drop (total (take k widths)) (bytesOf f t) ≡ joined (drop k widths) (drop k (valuesOf f)) t
+unfolding bytesOf
+rows-from f t k h = drop-joined widths (valuesOf f) t k h refl
+
+-- the ten bytes from byte 32 on make the grand time
+pub grand-bytes : (f : Fields) (t : List ℕ) → InRange (f .grand) → numberAt (bytesOf f t) 32 10 ≡ units (f .grand)
+unfolding joined
+grand-bytes f t r =
+    let s = digits 5 (f .grand .0) in
+    let x = digits 5 (f .grand .1) in
+    let rest = joined (drop 20 widths) (drop 20 (valuesOf f)) t in
+    let both : length (s ++ x) ≡ 10 = length-append s x ∙ (λ i. length-digits 5 (f .grand .0) i + length-digits 5 (f .grand .1) i) in
+    let value : onto 0 s ≡ f .grand .0 = value-digits 5 (f .grand .0) (r .seconds) in
+    ap (λ (l : List ℕ). onto 0 (take 10 l)) (rows-from f t 18 (lit≤ tt) ∙ sym (append-assoc s x rest))
+    ∙ ap (onto 0) (take-at (s ++ x) rest 10 both)
+    ∙ onto-append 0 s x
+    ∙ ap (λ (v : ℕ). onto v x) value
+    ∙ onto-split x (f .grand .0)
+    ∙ (λ i. f .grand .0 * 256 ^ length-digits 5 (f .grand .1) i + value-digits 5 (f .grand .1) (r .fraction) i)
+
+-- byte 30 is the frameCount
+pub count-byte : (f : Fields) (t : List ℕ) → f .count < 256 → numberAt (bytesOf f t) 30 1 ≡ f .count
+unfolding joined
+count-byte f t h =
+    ap (λ (l : List ℕ). onto 0 (take 1 l)) (rows-from f t 16 (lit≤ tt))
+    ∙ ap (onto 0) (take-at (digits 1 (f .count)) (joined (drop 17 widths) (drop 17 (valuesOf f)) t) 1 (length-digits 1 (f .count)))
+    ∙ value-digits 1 (f .count) h

@@ -90,7 +90,8 @@ number-at-small s b a n h = number-small (drop a s) (bytes-drop s a b) n (rw len
 
 -- ---- a number in two parts
 
-onto-split : (xs : List ℕ) (v : ℕ) → onto v xs ≡ v * 256 ^ length xs + onto 0 xs
+-- bytes that follow those of v
+pub onto-split : (xs : List ℕ) (v : ℕ) → onto v xs ≡ v * 256 ^ length xs + onto 0 xs
 onto-split [] v = omega arith
 onto-split (x ∷ xs) v =
     let p = 256 ^ length xs in

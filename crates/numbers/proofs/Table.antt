@@ -1,5 +1,5 @@
 -- Laws of a table of widths: how far a walk from its last row has come, and that taking apart and putting together undo each other.
-use mathlib.Core.Path.{_≡_, refl, ap, _∙_}
+use mathlib.Core.Path.{_≡_, refl, sym, ap, _∙_}
 use mathlib.Core.List.{List, [], _∷_, _++_, append-assoc}
 use Prim.Native.Nat.{ℕ, zero, suc, _+_, _-_, _^_, _<_, _≤_, max}
 use native.Mathlib.Nat.{le-trans, le-max-left, le-max-right}
@@ -125,3 +125,14 @@ parted-joined (w ∷ ws) (v ∷ vs) p t a e h =
     let l : length (p ++ digits w v) ≡ a + w = length-append p (digits w v) ∙ rw (e, length-digits) refl in
     let rest : parted ws (a + w) ((p ++ digits w v) ++ joined ws vs t) ≡ vs = parted-joined ws vs (p ++ digits w v) t (a + w) l (h .1) in
     λ i. here i ∷ (rw append-assoc at rest) i
+
+-- the rows from k on stand where those before them end, whatever their values
+pub drop-joined : (ws vs t : List ℕ) (k : ℕ) → k ≤ length ws → length vs ≡ length ws → drop (total (take k ws)) (joined ws vs t) ≡ joined (drop k ws) (drop k vs) t
+unfolding joined
+drop-joined ws vs t zero h e = refl
+drop-joined [] vs t (suc k) h e = absurd (omega arith)
+drop-joined (w ∷ ws) [] t (suc k) h e = absurd (omega arith)
+drop-joined (w ∷ ws) (v ∷ vs) t (suc k) h e =
+    sym (drop-drop (total (take k ws)) w (digits w v ++ joined ws vs t))
+    ∙ ap (drop (total (take k ws))) (drop-at (digits w v) (joined ws vs t) w (length-digits w v))
+    ∙ drop-joined ws vs t k (omega arith) (omega arith)

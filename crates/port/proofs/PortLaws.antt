@@ -19,7 +19,9 @@ use Rattle.times.proofs.KeepLaws.{kept-lawful}
 use Rattle.times.proofs.SentLaws.{sent-range}
 use Rattle.times.specs.declared.LocalTime.{LocalTime}
 use Rattle.times.specs.declared.GrandTime.{GrandTime}
+use Rattle.times.specs.declared.Sample.{Sample}
 use Rattle.times.specs.declared.Samples.{Samples}
+use Rattle.times.specs.declared.Samples.the-variants.{Empty, One, Two}
 use Rattle.times.specs.declared.Stamps.{Stamps}
 use Rattle.times.specs.declared.Stamps.the-variants.{Unset, Set}
 use Rattle.times.specs.declared.Sent.{Sent}
@@ -40,11 +42,12 @@ use Rattle.frame.specs.declared.Mac.{Mac}
 use Rattle.port.specs.Record.{silenced, agedBy, agedPort, emptyPort, usedPort}
 use Rattle.port.specs.Lawful.{LawfulLast, LawfulStamps, LawfulPort, LawfulClock, FieldsInRange}
 use Rattle.port.specs.Own.{storedAs, ownSample, toldBy, toldOf}
-use Rattle.port.specs.Receive.{sampleOf, sameClock, refusedBy, takenPort, delayedBy, followedBy, countedBy, receivedOf}
+use Rattle.port.specs.Receive.{sampleOf, sameClock, notedPort, refusedBy, takenPort, delayedBy, followedBy, countedBy, receivedOf}
 use Rattle.port.specs.Choose.{rankOf}
-use Rattle.port.specs.Send.{echoTx, echoRx, frameOf, sendingBy, sendingOf}
+use Rattle.port.specs.Send.{echoTx, echoRx, frameOf, sendingBy, sendingOf, sendingNo}
 use Rattle.port.specs.declared.Choice.{Choice}
 use Rattle.port.specs.declared.Choice.the-variants.{Nothing, Clock}
+use Rattle.port.specs.declared.Sending.{Sending}
 use Rattle.port.specs.declared.Sending.the-variants.{Refused, Frame}
 use Rattle.port.specs.declared.Last.{Last}
 use Rattle.port.specs.declared.Last.the-variants.{Never, Was}
@@ -120,6 +123,78 @@ module _ (count : ℕ) (grand : GrandTime) (at : LocalTime) (clock : OwnClock) w
       → storedAs 8 (clock .samples) count at ≡ toldOf count grand at clock
   told-other e k = if-false _ (storedAs 0 (keptOf (clock .samples) true (ownSample grand _)) count at) (storedAs 8 (clock .samples) count at) (ne-eqb _ _ k) ∙ told-by e
 
+-- what is answered but 0 is 7, 8 or 9, and then only frameCount and arrival are stored
+pub record Noted (f : Fields) (at : LocalTime) (port : Port) (r : Received) : Type 0 where
+  pub least : 7 ≤ r .answer
+  pub greatest : r .answer ≤ 9
+  pub stored : r .port ≡ notedPort (f .count) at port
+
+abbrev RefusedNoted : Fields → LocalTime → Port → Received → Type 0
+RefusedNoted f at port r = (r .answer ≡ 0 → ⊥) → Noted f at port r
+
+pub received-refused : (setting : DelaySetting) (chosen : ℕ) (f : Fields) (at : LocalTime) (port : Port) → RefusedNoted f at port (receivedOf setting chosen f at port)
+unfolding receivedOf followedBy
+received-refused setting chosen f at port =
+    if-when (RefusedNoted f at port) (eqb (f .hop) lastHop) (λ _ _. noted 7 (omega arith) (omega arith)) (λ _. counted (port .last))
+  where
+    noted : (k : ℕ) → 7 ≤ k → k ≤ 9 → Noted f at port (refusedBy k (f .count) at port)
+    noted k l g = record { least = l; greatest = g; stored = refl }
+
+    delayed : (d : Delay) (p : LocalTime) → RefusedNoted f at port (delayedBy d chosen f p at port)
+    delayed TooLong p n = noted 9 (omega arith) (omega arith)
+    delayed (Is x) p n = absurd (n refl)
+
+    counted : (last : Last) → RefusedNoted f at port (countedBy last setting chosen f at port)
+    counted Never = λ _. noted 8 (omega arith) (omega arith)
+    counted (Was count p) =
+        if-when (RefusedNoted f at port) (eqb (f .count) (nextCount count))
+        (λ _. delayed (linkDelayOf setting (neighbourRateOf (port .pair) (f .local) p) (f .local) p (f .tx) (f .rx)) p)
+        (λ _ _. noted 8 (omega arith) (omega arith))
+
+-- the next frameCount of a port stays, whatever it hears
+abbrev SameCount : Port → Received → Type 0
+SameCount port r = r .port .next ≡ port .next
+
+pub received-count : (setting : DelaySetting) (chosen : ℕ) (f : Fields) (at : LocalTime) (port : Port) → receivedOf setting chosen f at port .port .next ≡ port .next
+unfolding receivedOf followedBy
+received-count setting chosen f at port = if-when (SameCount port) (eqb (f .hop) lastHop) (λ _. refl) (λ _. counted (port .last))
+  where
+    delayed : (d : Delay) (p : LocalTime) → SameCount port (delayedBy d chosen f p at port)
+    delayed TooLong p = refl
+    delayed (Is x) p = refl
+
+    counted : (last : Last) → SameCount port (countedBy last setting chosen f at port)
+    counted Never = refl
+    counted (Was count p) =
+        if-when (SameCount port) (eqb (f .count) (nextCount count))
+        (λ _. delayed (linkDelayOf setting (neighbourRateOf (port .pair) (f .local) p) (f .local) p (f .tx) (f .rx)) p)
+        (λ _. refl)
+
+pub aged-count : (at : LocalTime) (timeout : ℕ) (port : Port) → agedPort at timeout port .next ≡ port .next
+unfolding agedPort
+aged-count at timeout port = go (port .heard)
+  where
+    go : (h : Heard) → agedBy h at timeout port .next ≡ port .next
+    go Silent = refl
+    go (Said p h when) = if-when (λ (r : Port). r .next ≡ port .next) (ltb (sinceOf at when) timeout) (λ _. refl) (λ _. refl)
+
+-- the same for a reading of the own clock: 8 alone, and the samples stay
+pub record NotedClock (count : ℕ) (at : LocalTime) (clock : OwnClock) (t : Told) : Type 0 where
+  pub number : t .answer ≡ 8
+  pub stored : t .clock ≡ record { last = Was count at; samples = clock .samples }
+
+abbrev RefusedClock : ℕ → LocalTime → OwnClock → Told → Type 0
+RefusedClock count at clock t = (t .answer ≡ 0 → ⊥) → NotedClock count at clock t
+
+pub told-refused : (count : ℕ) (grand : GrandTime) (at : LocalTime) (clock : OwnClock)
+    → RefusedClock count at clock (toldOf count grand at clock)
+unfolding toldOf
+told-refused count grand at clock = go (clock .last)
+  where
+    go : (last : Last) → RefusedClock count at clock (toldBy last count grand at (clock .samples))
+    go Never = λ _. record { number = refl; stored = refl }
+    go (Was held when) = if-when (RefusedClock count at clock) (eqb count (nextCount held)) (λ _ n. absurd (n refl)) (λ _ _. record { number = refl; stored = refl })
+
 -- ---- ranks
 
 module _ (p q : Precedence) (h k i j : ℕ) where
@@ -180,6 +255,52 @@ sending-written (Clock p h n) samples mac back t port room f ht l r e = by (sent
     by Few k e = let z : _≡_ {A = ℕ} 0 1 = cc in absurd (omega arith)
     by Late k e = let z : _≡_ {A = ℕ} 0 1 = cc in absurd (omega arith)
     by Beyond k e = let z : _≡_ {A = ℕ} 0 1 = cc in absurd (omega arith)
+
+-- what is answered but 0 is 10 to 13, and then there is no frame
+pub record NoFrame (s : Sending) : Type 0 where
+  pub least : 10 ≤ sendingNo s
+  pub greatest : sendingNo s ≤ 13
+  pub none : s ≡ Refused (sendingNo s)
+
+pub sending-refused : (choice : Choice) (samples : Samples) (mac : Mac) (back : ℕ) (t : LocalTime) (port : Port)
+    → (sendingNo (sendingOf choice samples mac back t port) ≡ 0 → ⊥) → NoFrame (sendingOf choice samples mac back t port)
+unfolding sendingOf
+sending-refused Nothing samples mac back t port n = record { least = omega arith; greatest = omega arith; none = refl }
+sending-refused (Clock p h k) samples mac back t port n = by (sentOf samples t back) n
+  where
+    by : (s : Sent) → (sendingNo (sendingBy s mac p h t port) ≡ 0 → ⊥) → NoFrame (sendingBy s mac p h t port)
+    by (At g x) n = absurd (n refl)
+    by Few n = record { least = omega arith; greatest = omega arith; none = refl }
+    by Late n = record { least = omega arith; greatest = omega arith; none = refl }
+    by Beyond n = record { least = omega arith; greatest = omega arith; none = refl }
+
+-- a frame is sent only off two samples, with the grand time and errorTime read off them
+pub record ReadOff (samples : Samples) (t : LocalTime) (back : ℕ) (f : Fields) : Type 0 where
+  pub older : Sample
+  pub newer : Sample
+  pub kept : samples ≡ Two older newer
+  pub sent : sentOf (Two older newer) t back ≡ At (f .grand) (f .error)
+
+pub sending-read-off : (choice : Choice) (samples : Samples) (mac : Mac) (back : ℕ) (t : LocalTime) (port : Port)
+    → sendingNo (sendingOf choice samples mac back t port) ≡ 0
+    → (f : Fields) × (sendingOf choice samples mac back t port ≡ Frame f) × (f .count ≡ port .next) × ReadOff samples t back f
+unfolding sendingOf sentOf
+sending-read-off Nothing samples mac back t port e = absurd (omega arith)
+sending-read-off (Clock p h n) Empty mac back t port e = absurd (omega arith)
+sending-read-off (Clock p h n) (One a) mac back t port e = absurd (omega arith)
+sending-read-off (Clock p h n) (Two a b) mac back t port e = by (sentOf (Two a b) t back) refl e
+  where
+    by : (s : Sent) → sentOf (Two a b) t back ≡ s → sendingNo (sendingBy s mac p h t port) ≡ 0
+        → (f : Fields) × (sendingBy (sentOf (Two a b) t back) mac p h t port ≡ Frame f) × (f .count ≡ port .next) × ReadOff (Two a b) t back f
+    by (At g x) q e = (
+      frameOf mac p h t g x port,
+      ap (λ (s : Sent). sendingBy s mac p h t port) q,
+      refl,
+      record { older = a; newer = b; kept = refl; sent = q },
+    )
+    by Few q e = absurd (omega arith)
+    by Late q e = absurd (omega arith)
+    by Beyond q e = absurd (omega arith)
 
 -- the times of a frame that was read are in range
 pub read-in-range : (s : List ℕ) (f : Fields) → Bytes s → readOf s ≡ Frames.Frame f → FieldsInRange f

@@ -1,0 +1,112 @@
+-- The choice is one of the candidates, no candidate has a lesser rank, and it is none exactly if there are none.
+use mathlib.Core.Path.{_≡_, refl, sym, ap, _∙_, subst}
+use mathlib.Core.Bool.{Bool, true, false}
+use mathlib.Core.List.{List, [], _∷_, List·Memᴰ, List·Memᴰ·head, List·Memᴰ·tail, List·Memᴰ·cases-cons, List·Memᴰ·not-nil}
+use mathlib.Core.Logic.{_⊎_, inl, inr, ⊎-elim}
+use Prim.Native.Nat.{ℕ, _<_, _≤_}
+use native.Mathlib.Omega.{arith}
+use native.Mathlib.Nat.{le-trans, le-refl, le-of-lt}
+use borrow.Author.Tests.{ltb-true, ltb-false}
+use lib.Dec.{ltb}
+use Rattle.frame.specs.declared.Precedence.{Precedence}
+use Rattle.port.specs.Choose.{rankOf, ownCandidate, betterOf}
+use Rattle.port.specs.declared.Choice.{Choice}
+use Rattle.port.specs.declared.Choice.the-variants.{Nothing, Clock}
+use Rattle.port.proofs.Choices.{if-when}
+use Rattle.bridge.specs.Chosen.{candidatesFrom, bestOf, chosenOf}
+use Rattle.bridge.specs.declared.Bridge.{Bridge}
+
+-- own clock first, then the ports
+abbrev pub candidates : Bridge → List Choice
+candidates b = ownCandidate (b .capable) (b .own) ∷ candidatesFrom 1 (b .ports)
+
+-- x is no worse than y: y is no candidate, or both are and x has no greater rank
+abbrev pub NoWorse : Choice → Choice → Type 0
+NoWorse x Nothing = Unit {0}
+NoWorse Nothing (Clock q k j) = ⊥
+NoWorse (Clock p h i) (Clock q k j) = rankOf p h i ≤ rankOf q k j
+
+-- ---- the better of two
+
+better-either : (a b : Choice) → (betterOf a b ≡ a) ⊎ (betterOf a b ≡ b)
+unfolding betterOf
+better-either Nothing b = inr refl
+better-either (Clock p h i) Nothing = inl refl
+better-either (Clock p h i) (Clock q k j) =
+    if-when (λ (x : Choice). (x ≡ Clock p h i) ⊎ (x ≡ Clock q k j)) (ltb (rankOf q k j) (rankOf p h i)) (λ _. inr refl) (λ _. inl refl)
+
+no-worse-refl : (a : Choice) → NoWorse a a
+no-worse-refl Nothing = tt
+no-worse-refl (Clock p h i) = le-refl (rankOf p h i)
+
+no-worse-trans : (a b c : Choice) → NoWorse a b → NoWorse b c → NoWorse a c
+no-worse-trans a b Nothing x y = tt
+no-worse-trans a Nothing (Clock r l k) x y = absurd y
+no-worse-trans Nothing (Clock q k j) (Clock r l m) x y = absurd x
+no-worse-trans (Clock p h i) (Clock q k j) (Clock r l m) x y = le-trans x y
+
+better-first : (a b : Choice) → NoWorse (betterOf a b) a
+unfolding betterOf
+better-first Nothing b = tt
+better-first (Clock p h i) Nothing = le-refl (rankOf p h i)
+better-first (Clock p h i) (Clock q k j) =
+    if-when (λ (x : Choice). NoWorse x (Clock p h i)) (ltb (rankOf q k j) (rankOf p h i)) (λ e. le-of-lt (ltb-true _ _ e)) (λ _. le-refl (rankOf p h i))
+
+better-second : (a b : Choice) → NoWorse (betterOf a b) b
+unfolding betterOf
+better-second Nothing b = no-worse-refl b
+better-second (Clock p h i) Nothing = tt
+better-second (Clock p h i) (Clock q k j) =
+    if-when (λ (x : Choice). NoWorse x (Clock q k j)) (ltb (rankOf q k j) (rankOf p h i)) (λ _. le-refl (rankOf q k j)) (λ e. ltb-false _ _ e)
+
+-- ---- the best of many
+
+best-member : (a : Choice) (l : List Choice) → List·Memᴰ (bestOf a l) (a ∷ l)
+unfolding bestOf
+best-member a [] = List·Memᴰ·head refl
+best-member a (c ∷ cs) =
+    ⊎-elim
+    (λ e. ⊎-elim (λ f. List·Memᴰ·head (e ∙ f)) (λ f. List·Memᴰ·tail (List·Memᴰ·head (e ∙ f))) (better-either a c))
+    (λ m. List·Memᴰ·tail (List·Memᴰ·tail m))
+    (List·Memᴰ·cases-cons (best-member (betterOf a c) cs))
+
+best-first : (a : Choice) (l : List Choice) → NoWorse (bestOf a l) a
+unfolding bestOf
+best-first a [] = no-worse-refl a
+best-first a (c ∷ cs) = no-worse-trans (bestOf (betterOf a c) cs) (betterOf a c) a (best-first (betterOf a c) cs) (better-first a c)
+
+best-least : (a : Choice) (l : List Choice) (x : Choice) → List·Memᴰ x (a ∷ l) → NoWorse (bestOf a l) x
+unfolding bestOf
+best-least a [] x m = ⊎-elim (λ e. subst (NoWorse a) (sym e) (no-worse-refl a)) (λ n. absurd (List·Memᴰ·not-nil n)) (List·Memᴰ·cases-cons m)
+best-least a (c ∷ cs) x m =
+    ⊎-elim
+    (λ e. subst (NoWorse (bestOf (betterOf a c) cs)) (sym e) (best-first a (c ∷ cs)))
+    (λ n. ⊎-elim
+      (λ e. subst (NoWorse (bestOf (betterOf a c) cs)) (sym e)
+        (no-worse-trans (bestOf (betterOf a c) cs) (betterOf a c) c (best-first (betterOf a c) cs) (better-second a c)))
+      (λ r. best-least (betterOf a c) cs x (List·Memᴰ·tail r))
+      (List·Memᴰ·cases-cons n))
+    (List·Memᴰ·cases-cons m)
+
+-- ---- the choice
+
+-- it is one of the candidates
+pub chosen-member : (b : Bridge) → List·Memᴰ (chosenOf b) (candidates b)
+unfolding chosenOf
+chosen-member b = best-member (ownCandidate (b .capable) (b .own)) (candidatesFrom 1 (b .ports))
+
+-- no candidate has a lesser rank
+pub chosen-least : (b : Bridge) (x : Choice) → List·Memᴰ x (candidates b) → NoWorse (chosenOf b) x
+unfolding chosenOf
+chosen-least b x m = best-least (ownCandidate (b .capable) (b .own)) (candidatesFrom 1 (b .ports)) x m
+
+-- it is none only if every candidate is none; where every candidate is none, it is one of them
+pub chosen-none : (b : Bridge) → chosenOf b ≡ Nothing → (x : Choice) → List·Memᴰ x (candidates b) → x ≡ Nothing
+chosen-none b e x m = go x (subst (λ (y : Choice). NoWorse y x) e (chosen-least b x m))
+  where
+    go : (x : Choice) → NoWorse Nothing x → x ≡ Nothing
+    go Nothing w = refl
+    go (Clock p h i) w = absurd w
+
+pub none-chosen : (b : Bridge) → ((x : Choice) → List·Memᴰ x (candidates b) → x ≡ Nothing) → chosenOf b ≡ Nothing
+none-chosen b f = f (chosenOf b) (chosen-member b)

@@ -1,0 +1,108 @@
+-- Demand 3 on the frame: where Send answers 0, the ten bytes of grandTime that it wrote lie less than 17 U from the exact line
+-- through the two kept samples of the chosen clock, read at t less backTime, plus backTime, across the wrap.
+use mathlib.Core.Path.{_≡_, refl, sym, ap, _∙_, subst}
+use mathlib.Core.Bool.{Bool, true, false, cond}
+use mathlib.Core.List.{List}
+use Prim.Native.Nat.{ℕ, _-_, _<_, _≤_}
+use native.Mathlib.Omega.{arith}
+use borrow.Author.Tests.{eqb-true, eqb-false, eq-eqb}
+use lib.Dec.{eqb}
+use lib.IntN.{ℤ, pos}
+use lib.ListN.{length, drop}
+use Rattle.numbers.specs.Digits.{numberAt}
+use Rattle.times.specs.Times.{sinceOf, units}
+use Rattle.times.specs.Keep.{LawfulSamples}
+use Rattle.times.specs.Sent.{reachOf}
+use Rattle.times.specs.Line.{NearLine}
+use Rattle.times.specs.declared.LocalTime.{LocalTime}
+use Rattle.times.specs.declared.Sample.{Sample}
+use Rattle.times.specs.declared.Samples.{Samples}
+use Rattle.times.specs.declared.Samples.the-variants.{Two}
+use Rattle.times.proofs.SentLaws.{sent-range}
+use Rattle.times.proofs.Bound.{sent-near}
+use Rattle.frame.specs.Frame.{frameLength}
+use Rattle.frame.specs.Write.{bytesOf}
+use Rattle.frame.specs.declared.Fields.{Fields}
+use Rattle.frame.proofs.Trip.{grand-bytes, count-byte}
+use Rattle.port.specs.Send.{sendingNo}
+use Rattle.port.specs.declared.Sending.{Sending}
+use Rattle.port.specs.declared.Sending.the-variants.{Frame}
+use Rattle.port.proofs.PortLaws.{ReadOff, sending-read-off}
+use Rattle.bridge.specs.Table.{portAt}
+use Rattle.bridge.specs.State.{Lawful, answers}
+use Rattle.bridge.specs.Refusals.{sendNo}
+use Rattle.bridge.specs.Chosen.{chosenOf}
+use Rattle.bridge.specs.Send.{chosenSamples, composedOf, usedOf, sendOf, filledBy, sendBytes}
+use Rattle.bridge.specs.declared.Bridge.{Bridge}
+use Rattle.bridge.specs.declared.Done.{Done}
+use Rattle.bridge.proofs.TableLaws.{chosen-lawful}
+
+-- grandTime stands in these bytes of a frame
+abbrev pub grandStart : ℕ
+grandStart = 32
+
+abbrev pub grandBytes : ℕ
+grandBytes = 10
+
+-- the two kept samples of the chosen clock, and that the grand time in these bytes lies near the line through them
+pub record OnLine (b : Bridge) (t : ℕ) (bytes : List ℕ) : Type 0 where
+  pub older : Sample
+  pub newer : Sample
+  pub kept : chosenSamples b ≡ Two older newer
+  pub near : NearLine older newer (pos (numberAt bytes grandStart grandBytes)) (reachOf (sinceOf (record { 0 = t }) (newer .local)) (b .back)) (b .back)
+
+-- what a send that answers 0 wrote: a frame that was composed, with the port's next frameCount
+pub record Wrote (b : Bridge) (port t : ℕ) (out : List ℕ) : Type 0 where
+  pub fields : Fields
+  pub bytes : sendBytes b port t out ≡ bytesOf fields (drop frameLength out)
+  pub count : fields .count ≡ portAt (b .ports) (port - 1) .next
+  pub read : ReadOff (chosenSamples b) (record { 0 = t }) (b .back) fields
+
+pub wrote : (b : Bridge) (port t : ℕ) (out : List ℕ) → sendOf b port t (length out) .answer ≡ 0 → Wrote b port t out
+unfolding sendOf sendBytes composedOf
+wrote b port t out = go (eqb (sendNo (b .n) (b .links) port t (length out)) 0) refl
+  where
+    frame : (r : Bool) → eqb (sendNo (b .n) (b .links) port t (length out)) 0 ≡ r → r ≡ true → sendingNo (composedOf b (port - 1) (record { 0 = t })) ≡ 0 → Wrote b port t out
+    frame r q y z =
+        let s = sending-read-off (chosenOf b) (chosenSamples b) (b .mac) (b .back) (record { 0 = t }) (portAt (b .ports) (port - 1)) z in
+        record {
+          fields = s .0;
+          bytes =
+              ap (λ (x : Bool). cond x (filledBy (composedOf b (port - 1) (record { 0 = t })) out) out) (q ∙ y)
+              ∙ ap (λ (x : Sending). filledBy x out) (s .1);
+          count = s .2;
+          read = s .3;
+        }
+
+    go : (r : Bool) → eqb (sendNo (b .n) (b .links) port t (length out)) 0 ≡ r
+        → cond r (answers (sendingNo (composedOf b (port - 1) (record { 0 = t }))) (usedOf b (port - 1))) (answers (sendNo (b .n) (b .links) port t (length out)) b) .answer ≡ 0
+        → Wrote b port t out
+    go true q z = frame true q refl z
+    go false q z = absurd (eqb-false _ _ q z)
+
+-- DEMAND 3
+pub sent-frame-near : (b : Bridge) (port t : ℕ) (out : List ℕ) → Lawful b → sendOf b port t (length out) .answer ≡ 0 → OnLine b t (sendBytes b port t out)
+sent-frame-near b port t out h e =
+    let w = wrote b port t out e in
+    let r = w .read in
+    let f = w .fields in
+    let range = sent-range (Two (r .older) (r .newer)) (record { 0 = t }) (b .back) (f .grand) (f .error) (r .sent) in
+    let lawful : LawfulSamples (Two (r .older) (r .newer)) =
+    subst LawfulSamples (r .kept) (chosen-lawful (chosenOf b) (b .clock) (b .ports) (h .clock-lawful) (h .ports-lawful)) in
+    let number : units (f .grand) ≡ numberAt (sendBytes b port t out) grandStart grandBytes =
+    sym (ap (λ (l : List ℕ). numberAt l grandStart grandBytes) (w .bytes) ∙ grand-bytes f (drop frameLength out) range) in
+    record {
+      older = r .older;
+      newer = r .newer;
+      kept = r .kept;
+      near =
+          subst (λ (n : ℕ). NearLine (r .older) (r .newer) (pos n) (reachOf (sinceOf (record { 0 = t }) (r .newer .local)) (b .back)) (b .back)) number
+          (sent-near (r .older) (r .newer) (record { 0 = t }) (b .back) (f .grand) (f .error) lawful (h .back-small) (r .sent) .0);
+    }
+
+-- byte 30 of a frame that was sent is the port's next frameCount
+pub sent-frame-count : (b : Bridge) (port t : ℕ) (out : List ℕ) → portAt (b .ports) (port - 1) .next < 256 → sendOf b port t (length out) .answer ≡ 0
+    → numberAt (sendBytes b port t out) 30 1 ≡ portAt (b .ports) (port - 1) .next
+sent-frame-count b port t out h e =
+    let w = wrote b port t out e in
+    ap (λ (l : List ℕ). numberAt l 30 1) (w .bytes) ∙ count-byte (w .fields) (drop frameLength out) (subst (λ (n : ℕ). n < 256) (sym (w .count)) h) ∙ w .count

@@ -1,0 +1,157 @@
+-- Demand 1: what a refused call changes, call by call, is what document 01 names and nothing else.
+use mathlib.Core.Path.{_≡_, refl, ap, _∙_}
+use mathlib.Core.Bool.{Bool, true, false, cond}
+use mathlib.Core.List.{List}
+use Prim.Native.Nat.{ℕ, _-_, _<_, _≤_}
+use native.Mathlib.Omega.{arith}
+use lib.Dec.{eqb, leb, ltb}
+use lib.ListN.{length}
+use Rattle.times.specs.Times.{circle, second}
+use Rattle.frame.specs.Frame.{frameLength}
+use Rattle.frame.specs.Read.{unless, readOf}
+use Rattle.frame.specs.declared.Fields.{Fields}
+use Rattle.frame.specs.declared.Mac.{Mac}
+use Rattle.frame.specs.declared.Precedence.{Precedence}
+use Rattle.frame.specs.declared.Reading.{Reading}
+use Rattle.frame.specs.declared.Reading.the-variants as Readings
+use Rattle.port.specs.Receive.{notedPort}
+use Rattle.port.specs.Send.{sendingNo}
+use Rattle.port.specs.declared.Last.the-variants.{Was}
+use Rattle.port.specs.declared.Setting.{Setting}
+use Rattle.port.specs.declared.Sending.{Sending}
+use Rattle.port.specs.declared.Sending.the-variants as Sendings
+use Rattle.port.proofs.Choices.{if-when}
+use Rattle.port.proofs.PortLaws.{received-refused, told-refused, NoFrame, sending-refused}
+use Rattle.bridge.specs.Table.{portAt}
+use Rattle.bridge.specs.State.{withPort, withClock, answers}
+use Rattle.bridge.specs.Refusals.{hasLink, portNo, sendNo, ownNo, maskBeyond}
+use Rattle.bridge.specs.Setup.{setupFits, noBridge, setupOf}
+use Rattle.bridge.specs.Links.{linksOf}
+use Rattle.bridge.specs.Own.{ownClockOf}
+use Rattle.bridge.specs.Receive.{readBy, heardOf, receiveOf}
+use Rattle.bridge.specs.Age.{ageOf}
+use Rattle.bridge.specs.Send.{composedOf, usedOf, sendOf, filledBy, sendBytes}
+use Rattle.bridge.specs.declared.Bridge.{Bridge}
+use Rattle.bridge.specs.declared.Done.{Done}
+use Rattle.bridge.specs.declared.Linked.{Linked}
+use Rattle.bridge.specs.declared.LinkCount.{LinkCount}
+use Rattle.bridge.specs.declared.LinkCount.the-variants.{Refused, Up}
+
+-- setup, 1: what stands for no state
+pub setup-none : (n : ℕ) (mac : Mac) (own : Precedence) (capable : Bool) (timeout back : ℕ) (settings : List Setting)
+    → (setupOf n mac own capable timeout back settings .answer ≡ 0 → ⊥) → setupOf n mac own capable timeout back settings .next ≡ noBridge
+unfolding setupOf
+setup-none n mac own capable timeout back settings =
+    if-when (λ (d : Done). (d .answer ≡ 0 → ⊥) → d .next ≡ noBridge) (setupFits n timeout back settings) (λ _ z. absurd (z refl)) (λ _ _. refl)
+
+-- links, 2: nothing
+pub links-keeps : (b : Bridge) (mask : ℕ) → linksOf b mask .answer ≡ Refused → linksOf b mask .next ≡ b
+unfolding linksOf
+links-keeps b mask =
+    if-when (λ (d : Linked). d .answer ≡ Refused → d .next ≡ b) (maskBeyond (b .n) mask) (λ _ _. refl)
+    (λ _ e. let z : _≡_ {A = ℕ} 0 1 = cc in absurd (omega arith))
+
+-- age, 2: nothing
+pub age-keeps : (b : Bridge) (at : ℕ) → (ageOf b at .answer ≡ 0 → ⊥) → ageOf b at .next ≡ b
+unfolding ageOf
+age-keeps b at = if-when (λ (d : Done). (d .answer ≡ 0 → ⊥) → d .next ≡ b) (leb circle at) (λ _ _. refl) (λ _ z. absurd (z refl))
+
+-- own clock, 2 and 10: nothing; 8: frameCount and now
+pub record OwnKeeps (b : Bridge) (count at : ℕ) (d : Done) : Type 0 where
+  pub early : (d .answer ≡ 0 → ⊥) → (d .answer ≡ 8 → ⊥) → d .next ≡ b
+  pub late : d .answer ≡ 8 → d .next ≡ withClock b (record { last = Was count (record { 0 = at }); samples = b .clock .samples })
+
+-- which numbers the tests over numbers alone give
+port-number : (n links port at : ℕ) → 7 ≤ portNo n links port at → ⊥
+unfolding portNo
+port-number n links port at = by (leb 1 port) (leb port n) (ltb at circle) (hasLink links port)
+  where
+    by : (a b c d : Bool) → 7 ≤ unless a 2 (unless b 2 (unless c 2 (unless d 3 0))) → ⊥
+    by false b c d e = omega arith
+    by true false c d e = omega arith
+    by true true false d e = omega arith
+    by true true true false e = omega arith
+    by true true true true e = omega arith
+
+send-number : (n links port t room : ℕ) → 5 ≤ sendNo n links port t room → ⊥
+unfolding sendNo
+send-number n links port t room = by (leb 1 port) (leb port n) (ltb t circle) (hasLink links port) (leb frameLength room)
+  where
+    by : (a b c d e : Bool) → 5 ≤ unless a 2 (unless b 2 (unless c 2 (unless d 3 (unless e 4 0)))) → ⊥
+    by false b c d e h = omega arith
+    by true false c d e h = omega arith
+    by true true false d e h = omega arith
+    by true true true false e h = omega arith
+    by true true true true false h = omega arith
+    by true true true true true h = omega arith
+
+own-number : (capable : Bool) (seconds fraction at : ℕ) → ownNo capable seconds fraction at ≡ 8 → ⊥
+unfolding ownNo
+own-number capable seconds fraction at = by (ltb seconds second) (ltb fraction second) (ltb at circle) capable
+  where
+    by : (a b c d : Bool) → unless a 2 (unless b 2 (unless c 2 (unless d 10 0))) ≡ 8 → ⊥
+    by false b c d e = omega arith
+    by true false c d e = omega arith
+    by true true false d e = omega arith
+    by true true true false e = omega arith
+    by true true true true e = omega arith
+
+pub own-keeps : (b : Bridge) (count seconds fraction at : ℕ) → OwnKeeps b count at (ownClockOf b count seconds fraction at)
+unfolding ownClockOf
+own-keeps b count seconds fraction at =
+    if-when (OwnKeeps b count at) (eqb (ownNo (b .capable) seconds fraction at) 0)
+    (λ _.
+      let t = told-refused count (record { 0 = seconds; 1 = fraction }) (record { 0 = at }) (b .clock) in
+      record { early = λ z n. absurd (n (t z .number)); late = λ e. ap (withClock b) (t (λ z. omega arith) .stored) })
+    (λ _. record { early = λ _ _. refl; late = λ e. absurd (own-number (b .capable) seconds fraction at e) })
+
+-- receive, 2 to 6: nothing; 7 to 9: frameCount and arrival, as the next p and not as heard-at
+pub record ReceiveKeeps (b : Bridge) (port : ℕ) (frame : List ℕ) (arrival : ℕ) (d : Done) : Type 0 where
+  pub early : (d .answer ≡ 0 → ⊥) → d .answer ≤ 6 → d .next ≡ b
+  pub late : (f : Fields) → readOf frame ≡ Readings.Frame f → 7 ≤ d .answer
+      → d .next ≡ withPort b (port - 1) (notedPort (f .count) (record { 0 = arrival }) (portAt (b .ports) (port - 1)))
+
+pub receive-keeps : (b : Bridge) (port : ℕ) (frame : List ℕ) (arrival : ℕ) → ReceiveKeeps b port frame arrival (receiveOf b port frame arrival)
+unfolding receiveOf heardOf
+receive-keeps b port frame arrival =
+    if-when (ReceiveKeeps b port frame arrival) (eqb (portNo (b .n) (b .links) port arrival) 0)
+    (λ _. by (readOf frame) refl)
+    (λ _. record { early = λ _ _. refl; late = λ f e l. absurd (small l) })
+  where
+    small : 7 ≤ portNo (b .n) (b .links) port arrival → ⊥
+    small l = port-number (b .n) (b .links) port arrival l
+
+    by : (r : Reading) → readOf frame ≡ r → ReceiveKeeps b port frame arrival (readBy b (port - 1) r (record { 0 = arrival }))
+    by (Readings.Refused k) q = record { early = λ _ _. refl; late = λ f e l. let z : _≡_ {A = ℕ} 0 1 = cc in absurd (omega arith) }
+    by (Readings.Frame g) q =
+        let n = received-refused _ _ g (record { 0 = arrival }) (portAt (b .ports) (port - 1)) in
+        record {
+          early = λ z l. let m = n z in absurd (omega (arith, m .least));
+          late = λ f e l. let same : g ≡ f = cc in ap (withPort b (port - 1)) (n (λ z. omega arith) .stored ∙ ap (λ (x : Fields). notedPort (x .count) (record { 0 = arrival }) (portAt (b .ports) (port - 1))) same);
+        }
+
+-- send, 2 to 4: nothing; 10 to 13: the port's next frameCount; and no refusal touches the output
+pub record SendKeeps (b : Bridge) (port t : ℕ) (out : List ℕ) (d : Done) (left : List ℕ) : Type 0 where
+  pub early : (d .answer ≡ 0 → ⊥) → d .answer ≤ 4 → d .next ≡ b
+  pub late : 5 ≤ d .answer → d .next ≡ usedOf b (port - 1)
+  pub output : (d .answer ≡ 0 → ⊥) → left ≡ out
+
+-- a send that came as far as the choice, with what it composes
+composed-keeps : (b : Bridge) (port t : ℕ) (out : List ℕ) (s : Sending) → ((sendingNo s ≡ 0 → ⊥) → NoFrame s)
+    → SendKeeps b port t out (answers (sendingNo s) (usedOf b (port - 1))) (filledBy s out)
+composed-keeps b port t out s n = record {
+  early = λ z l. absurd (omega (arith, n z .least));
+  late = λ _. refl;
+  output = λ z. ap (λ (x : Sending). filledBy x out) (n z .none);
+}
+
+pub send-keeps : (b : Bridge) (port t : ℕ) (out : List ℕ) → SendKeeps b port t out (sendOf b port t (length out)) (sendBytes b port t out)
+unfolding sendOf sendBytes composedOf
+send-keeps b port t out = go (eqb (sendNo (b .n) (b .links) port t (length out)) 0)
+  where
+    go : (r : Bool)
+        → SendKeeps b port t out
+        (cond r (answers (sendingNo (composedOf b (port - 1) (record { 0 = t }))) (usedOf b (port - 1))) (answers (sendNo (b .n) (b .links) port t (length out)) b))
+        (cond r (filledBy (composedOf b (port - 1) (record { 0 = t })) out) out)
+    go true = composed-keeps b port t out _ (sending-refused _ _ _ _ _ _)
+    go false = record { early = λ _ _. refl; late = λ l. absurd (send-number (b .n) (b .links) port t (length out) l); output = λ _. refl }
