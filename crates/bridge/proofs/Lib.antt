@@ -6,5 +6,5 @@ pub mod Keeps
 pub mod Refused
 pub mod Line
 pub mod Least
-
+pub mod Counts
 pub mod Unique
