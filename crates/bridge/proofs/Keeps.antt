@@ -29,7 +29,7 @@ use Rattle.port.specs.declared.Sending.the-variants as Sendings
 use Rattle.port.proofs.Choices.{if-when}
 use Rattle.port.proofs.PortLaws.{empty-lawful, used-lawful, aged-lawful, received-lawful, told-lawful, read-in-range, sending-written}
 use Rattle.bridge.specs.Table.{each, portAt}
-use Rattle.bridge.specs.State.{mostPorts, Lawful, withPorts, withPort, answers, Out, LinksOut}
+use Rattle.bridge.specs.State.{mostPorts, Lawful, withPorts, withPort, answers}
 use Rattle.bridge.specs.Refusals.{bit, portNo, sendNo, ownNo, maskBeyond}
 use Rattle.bridge.specs.Setup.{leastTimeout, greatestTimeout, delaysFit, setupFits, freshOf, noBridge, setupOf}
 use Rattle.bridge.specs.Links.{relinkedPort, linksOf}
@@ -49,12 +49,12 @@ Next d = Lawful (d .next)
 abbrev LinkedNext : Linked → Type 0
 LinkedNext d = Lawful (d .next)
 
--- a call's promise from what it is and what is lawful
-pub out : (want got : Done) → got ≡ want → Lawful (want .next) → Out want got
-out want got e l = record { is = e; lawful = rw e l }
+-- what is handed back is as wanted, and so it is lawful
+pub out : (want got : Done) → got ≡ want → Lawful (want .next) → (got ≡ want) × Lawful (got .next)
+out want got e l = (e, rw e l)
 
-pub links-out : (want got : Linked) → got ≡ want → Lawful (want .next) → LinksOut want got
-links-out want got e l = record { is = e; lawful = rw e l }
+pub links-out : (want got : Linked) → got ≡ want → Lawful (want .next) → (got ≡ want) × Lawful (got .next)
+links-out want got e l = (e, rw e l)
 
 -- ---- other records in a lawful state
 

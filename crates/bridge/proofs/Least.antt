@@ -82,10 +82,10 @@ best-least a (c ∷ cs) x m =
     ⊎-elim
     (λ e. subst (NoWorse (bestOf (betterOf a c) cs)) (sym e) (best-first a (c ∷ cs)))
     (λ n. ⊎-elim
-      (λ e. subst (NoWorse (bestOf (betterOf a c) cs)) (sym e)
-        (no-worse-trans (bestOf (betterOf a c) cs) (betterOf a c) c (best-first (betterOf a c) cs) (better-second a c)))
-      (λ r. best-least (betterOf a c) cs x (List·Memᴰ·tail r))
-      (List·Memᴰ·cases-cons n))
+    (λ e. subst (NoWorse (bestOf (betterOf a c) cs)) (sym e)
+    (no-worse-trans (bestOf (betterOf a c) cs) (betterOf a c) c (best-first (betterOf a c) cs) (better-second a c)))
+    (λ r. best-least (betterOf a c) cs x (List·Memᴰ·tail r))
+    (List·Memᴰ·cases-cons n))
     (List·Memᴰ·cases-cons m)
 
 -- ---- the choice

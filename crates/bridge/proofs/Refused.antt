@@ -101,8 +101,8 @@ unfolding ownClockOf
 own-keeps b count seconds fraction at =
     if-when (OwnKeeps b count at) (eqb (ownNo (b .capable) seconds fraction at) 0)
     (λ _.
-      let t = told-refused count (record { 0 = seconds; 1 = fraction }) (record { 0 = at }) (b .clock) in
-      record { early = λ z n. absurd (n (t z .number)); late = λ e. ap (withClock b) (t (λ z. omega arith) .stored) })
+    let t = told-refused count (record { 0 = seconds; 1 = fraction }) (record { 0 = at }) (b .clock) in
+    record { early = λ z n. absurd (n (t z .number)); late = λ e. ap (withClock b) (t (λ z. omega arith) .stored) })
     (λ _. record { early = λ _ _. refl; late = λ e. absurd (own-number (b .capable) seconds fraction at e) })
 
 -- receive, 2 to 6: nothing; 7 to 9: frameCount and arrival, as the next p and not as heard-at

@@ -15,7 +15,6 @@ use Rattle.frame.specs.declared.Precedence.{Precedence}
 use Rattle.frame.specs.declared.Reading.{Reading}
 use Rattle.port.specs.declared.Choice.{Choice}
 use Rattle.port.specs.declared.Setting.{Setting}
-use Rattle.bridge.specs.State.{Out, LinksOut, SendOut}
 use Rattle.bridge.specs.Setup.{setupOf}
 use Rattle.bridge.specs.Links.{linksOf}
 use Rattle.bridge.specs.Own.{ownClockOf}
@@ -32,9 +31,6 @@ use Rattle.bridge.specs.declared.Linked.{Linked}
 one : {A : Type 0} {want x y : A} → x ≡ want → y ≡ want → x ≡ y
 one p q = p ∙ sym q
 
-one-out : {want x y : Done} → Out want x → Out want y → x ≡ y
-one-out p q = one (p .is) (q .is)
-
 pub read-one : (s : List ℕ) (x y : Reading) → x ≡ readOf s → y ≡ readOf s → x ≡ y
 read-one s x y p q = one p q
 
@@ -48,31 +44,31 @@ pub better-one : (a b x y : RefT (List ℕ)) → lies x ≡ betterOf a b → lie
 better-one a b x y p q = one p q
 
 pub setup-one : (n : ℕ) (mac : Mac) (own : Precedence) (capable : Bool) (timeout back : ℕ) (settings : List Setting) (x y : Done)
-    → Out (setupOf n mac own capable timeout back settings) x → Out (setupOf n mac own capable timeout back settings) y → x ≡ y
-setup-one n mac own capable timeout back settings x y p q = one-out p q
+    → x ≡ setupOf n mac own capable timeout back settings → y ≡ setupOf n mac own capable timeout back settings → x ≡ y
+setup-one n mac own capable timeout back settings x y p q = one p q
 
-pub links-one : (b : Bridge) (mask : ℕ) (x y : Linked) → LinksOut (linksOf b mask) x → LinksOut (linksOf b mask) y → x ≡ y
-links-one b mask x y p q = one (p .is) (q .is)
+pub links-one : (b : Bridge) (mask : ℕ) (x y : Linked) → x ≡ linksOf b mask → y ≡ linksOf b mask → x ≡ y
+links-one b mask x y p q = one p q
 
 pub own-clock-one : (b : Bridge) (count seconds fraction at : ℕ) (x y : Done)
-    → Out (ownClockOf b count seconds fraction at) x → Out (ownClockOf b count seconds fraction at) y → x ≡ y
-own-clock-one b count seconds fraction at x y p q = one-out p q
+    → x ≡ ownClockOf b count seconds fraction at → y ≡ ownClockOf b count seconds fraction at → x ≡ y
+own-clock-one b count seconds fraction at x y p q = one p q
 
 pub receive-one : (b : Bridge) (port : ℕ) (frame : List ℕ) (arrival : ℕ) (x y : Done)
-    → Out (receiveOf b port frame arrival) x → Out (receiveOf b port frame arrival) y → x ≡ y
-receive-one b port frame arrival x y p q = one-out p q
+    → x ≡ receiveOf b port frame arrival → y ≡ receiveOf b port frame arrival → x ≡ y
+receive-one b port frame arrival x y p q = one p q
 
-pub age-one : (b : Bridge) (at : ℕ) (x y : Done) → Out (ageOf b at) x → Out (ageOf b at) y → x ≡ y
-age-one b at x y p q = one-out p q
+pub age-one : (b : Bridge) (at : ℕ) (x y : Done) → x ≡ ageOf b at → y ≡ ageOf b at → x ≡ y
+age-one b at x y p q = one p q
 
 pub chosen-one : (b : Bridge) (x y : Choice) → x ≡ chosenOf b → y ≡ chosenOf b → x ≡ y
 chosen-one b x y p q = one p q
 
 -- the answer, the next state, and every byte of the output
 pub send-one : (b : Bridge) (port t : ℕ) (out left left' : List ℕ) (x y : Done)
-    → SendOut (sendOf b port t (length out)) (sendBytes b port t out) x left → SendOut (sendOf b port t (length out)) (sendBytes b port t out) y left'
+    → (x ≡ sendOf b port t (length out)) × (left ≡ sendBytes b port t out) → (y ≡ sendOf b port t (length out)) × (left' ≡ sendBytes b port t out)
     → (x ≡ y) × (left ≡ left')
-send-one b port t out left left' x y p q = (one (p .is) (q .is), one (p .bytes) (q .bytes))
+send-one b port t out left left' x y p q = (one (p .0) (q .0), one (p .1) (q .1))
 
 pub drift-one : (b : Bridge) (port : ℕ) (x y : Drift) → x ≡ driftAt b port → y ≡ driftAt b port → x ≡ y
 drift-one b port x y p q = one p q

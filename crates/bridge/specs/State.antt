@@ -1,4 +1,4 @@
--- The state: what holds of every state that Setup or a call hands back, and the forms of the calls' promises.
+-- The state: what holds of every state that Setup or a call hands back, and a state with one part changed.
 use mathlib.Core.Path.{_≡_}
 use mathlib.Core.List.{List}
 use Prim.Native.Nat.{ℕ, _^_, _<_, _≤_}
@@ -77,18 +77,3 @@ answers k b = record { answer = k; next = b }
 
 abbrev pub linked : LinkCount → Bridge → Linked
 linked k b = record { answer = k; next = b }
-
--- a call's promise: answer and next state are those wanted, and the state is lawful
-pub record Out (want got : Done) : Type 0 where
-  pub is : got ≡ want
-  pub lawful : Lawful (got .next)
-
-pub record LinksOut (want got : Linked) : Type 0 where
-  pub is : got ≡ want
-  pub lawful : Lawful (got .next)
-
--- the same with a lent buffer
-pub record SendOut (want : Done) (filled : List ℕ) (got : Done) (left : List ℕ) : Type 0 where
-  pub is : got ≡ want
-  pub bytes : left ≡ filled
-  pub lawful : Lawful (got .next)

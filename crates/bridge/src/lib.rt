@@ -7,7 +7,7 @@ ghost use Prim.Native.Nat.{_<_};
 ghost use lib.ListN.{length};
 ghost use Rattle.times.specs.Times.{circle};
 ghost use Rattle.port.specs.Lawful.{FieldsInRange};
-ghost use Rattle.bridge.specs.State.{Lawful, Out, LinksOut, SendOut};
+ghost use Rattle.bridge.specs.State.{Lawful};
 ghost use Rattle.bridge.specs.Setup.{freshOf, setupOf};
 ghost use Rattle.bridge.specs.Links.{linksOf};
 ghost use Rattle.bridge.specs.Own.{ownClockOf};
@@ -77,7 +77,7 @@ pub struct Linked {
 }
 
 // A state with this setup, all links down and all records empty.
-pub fn fresh(
+fn fresh(
     n: u8,
     mac: Mac,
     own: Precedence,
@@ -114,7 +114,8 @@ pub fn setup(
     back: u64,
     settings: [Setting; 8],
 ) -> Done
-    ensures { λ r. ⌜ Out (setupOf n mac own capable timeout back settings) r ⌝ }
+    ensures { λ r. ⌜ r ≡ setupOf n mac own capable timeout back settings ⌝ }
+    ensures { λ r. ⌜ Lawful (r .next) ⌝ }
 {
     if checks::setup_fits(n, timeout, back, settings) {
         return Done {
@@ -139,7 +140,8 @@ pub fn setup(
 // Links: the ports that have a link are the set bits of the mask; a port that loses its link loses its record.
 pub fn links(b: Bridge, mask: u8) -> Linked
     requires { ⌜ Lawful b ⌝ }
-    ensures { λ r. ⌜ LinksOut (linksOf b mask) r ⌝ }
+    ensures { λ r. ⌜ r ≡ linksOf b mask ⌝ }
+    ensures { λ r. ⌜ Lawful (r .next) ⌝ }
 {
     if checks::beyond(b.n, mask) {
         return Linked {
@@ -161,7 +163,8 @@ pub fn links(b: Bridge, mask: u8) -> Linked
 // Own clock: a reading of it, whose grand time belongs to the local time of the preceding one.
 pub fn own_clock(b: Bridge, count: u8, seconds: u64, fraction: u64, at: u64) -> Done
     requires { ⌜ Lawful b ⌝ }
-    ensures { λ r. ⌜ Out (ownClockOf b count seconds fraction at) r ⌝ }
+    ensures { λ r. ⌜ r ≡ ownClockOf b count seconds fraction at ⌝ }
+    ensures { λ r. ⌜ Lawful (r .next) ⌝ }
 {
     let refusal = checks::own_no(b.capable, seconds, fraction, at);
     if refusal != 0 {
@@ -182,7 +185,7 @@ pub fn own_clock(b: Bridge, count: u8, seconds: u64, fraction: u64, at: u64) -> 
 }
 
 // A frame that was read, on the port at index i.
-pub fn heard(b: Bridge, i: usize, f: Fields, at: LocalTime) -> Done
+fn heard(b: Bridge, i: usize, f: Fields, at: LocalTime) -> Done
     requires { ⌜ Lawful b ⌝ }
     requires { ⌜ i < 8 ⌝ }
     requires { ⌜ FieldsInRange f ⌝ }
@@ -205,7 +208,8 @@ pub fn heard(b: Bridge, i: usize, f: Fields, at: LocalTime) -> Done
 // Receive: a frame that arrived at a port.
 pub fn receive(b: Bridge, port: u8, frame: &[u8], arrival: u64) -> Done
     requires { ⌜ Lawful b ⌝ }
-    ensures { λ r. ⌜ Out (receiveOf b port (now (frame .entry)) arrival) r ⌝ }
+    ensures { λ r. ⌜ r ≡ receiveOf b port (now (frame .entry)) arrival ⌝ }
+    ensures { λ r. ⌜ Lawful (r .next) ⌝ }
 {
     let refusal = checks::port_no(b.n, b.links, port, arrival);
     if refusal != 0 {
@@ -226,7 +230,8 @@ pub fn receive(b: Bridge, port: u8, frame: &[u8], arrival: u64) -> Done
 // Age: announcements as old as the timeout go, with samples and echo.
 pub fn age(b: Bridge, at: u64) -> Done
     requires { ⌜ Lawful b ⌝ }
-    ensures { λ r. ⌜ Out (ageOf b at) r ⌝ }
+    ensures { λ r. ⌜ r ≡ ageOf b at ⌝ }
+    ensures { λ r. ⌜ Lawful (r .next) ⌝ }
 {
     if checks::off_circle(at) {
         return Done {
@@ -255,7 +260,7 @@ pub fn chosen(b: Bridge) -> Choice
 }
 
 // The frame that the port at index i sends at t, or why it sends none.
-pub fn composed(b: Bridge, i: usize, t: LocalTime) -> Sending
+fn composed(b: Bridge, i: usize, t: LocalTime) -> Sending
     requires { ⌜ Lawful b ⌝ }
     requires { ⌜ i < 8 ⌝ }
     ensures { λ r. ⌜ r ≡ composedOf b i t ⌝ }
@@ -270,7 +275,7 @@ pub fn composed(b: Bridge, i: usize, t: LocalTime) -> Sending
 }
 
 // The state once the port at index i has used up its next frameCount.
-pub fn used(b: Bridge, i: usize) -> Bridge
+fn used(b: Bridge, i: usize) -> Bridge
     requires { ⌜ Lawful b ⌝ }
     requires { ⌜ i < 8 ⌝ }
     ensures { λ r. ⌜ r ≡ usedOf b i ⌝ }
@@ -284,7 +289,9 @@ pub fn used(b: Bridge, i: usize) -> Bridge
 // Send: fills the output with the port's next frame, whose preceding one departed at t.
 pub fn send(b: Bridge, port: u8, t: u64, out: &mut [u8]) -> Done
     requires { ⌜ Lawful b ⌝ }
-    ensures { λ r. ⌜ SendOut (sendOf b port t (length (now (out .entry)))) (sendBytes b port t (now (out .entry))) r (now (out .exit)) ⌝ }
+    ensures { λ r. ⌜ r ≡ sendOf b port t (length (now (out .entry))) ⌝ }
+    ensures { λ _. ⌜ now (out .exit) ≡ sendBytes b port t (now (out .entry)) ⌝ }
+    ensures { λ r. ⌜ Lawful (r .next) ⌝ }
 {
     let refusal = checks::send_no(b.n, b.links, port, t, out.len());
     if refusal != 0 {

@@ -27,12 +27,10 @@ index c = omega (arith, ready c .0 .low, ready c .0 .high, c .before .before .be
 returns : tie.Need-returns
 returns c =
     let k = c .before in
-    let s = k .before .before in
-    record {
-      is = send-refused _ _ _ (s .args .out .now) _ (k .send-no .ensures) (c .if1 .taken);
-      bytes = send-untouched _ _ _ (s .args .out .now) _ (k .send-no .ensures) (c .if1 .taken);
-      lawful = s .pre;
-    }
+    let s = k .before .before in (
+      send-refused _ _ _ (s .args .out .now) _ (k .send-no .ensures) (c .if1 .taken),
+      (send-untouched _ _ _ (s .args .out .now) _ (k .send-no .ensures) (c .if1 .taken), s .pre),
+    )
 
 sub-i : tie.Need-sub-i
 sub-i c = omega (arith, ready c .0 .low)
@@ -63,17 +61,19 @@ returns-2 c =
     let s = k .before .before in
     let a = s .args in
     let fits = composed-written (a .b) (a .port - 1) (record { 0 = a .t }) (length (a .out .now)) (ready e .0 .time) (s .pre) (ready e .1) in
-    record {
-      is =
-          (λ i. answers ((d .delivered .ensures .0 ∙ ap (λ (x : Sending). deliveredNo x (length (a .out .now))) (m .composed .ensures) ∙ delivered-answer (a .out .now) _ fits) i) (c .used .ensures i))
-          ∙ send-answers _ _ _ (a .out .now) _ (k .send-no .ensures) (e .if1 .left);
-      bytes =
-          d .delivered .ensures .1
-          ∙ ap (λ (x : Sending). deliveredBytes x (a .out .now)) (m .composed .ensures)
-          ∙ delivered-bytes (a .out .now) _ fits
-          ∙ send-fills _ _ _ (a .out .now) _ (k .send-no .ensures) (e .if1 .left);
-      lawful = subst Lawful (sym (c .used .ensures)) (usedOf-lawful _ _ (s .pre));
-    }
+    let answer =
+    d .delivered .ensures .0
+    ∙ ap (λ (x : Sending). deliveredNo x (length (a .out .now))) (m .composed .ensures)
+    ∙ delivered-answer (a .out .now) _ fits in (
+      (λ i. answers (answer i) (c .used .ensures i)) ∙ send-answers _ _ _ (a .out .now) _ (k .send-no .ensures) (e .if1 .left),
+      (
+        d .delivered .ensures .1
+            ∙ ap (λ (x : Sending). deliveredBytes x (a .out .now)) (m .composed .ensures)
+            ∙ delivered-bytes (a .out .now) _ fits
+            ∙ send-fills _ _ _ (a .out .now) _ (k .send-no .ensures) (e .if1 .left),
+        subst Lawful (sym (c .used .ensures)) (usedOf-lawful _ _ (s .pre)),
+      ),
+    )
 
 pub send-spec : {M : Type 1} → statement M
 send-spec =

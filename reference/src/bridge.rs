@@ -1,0 +1,319 @@
+//! The bridge: its ports, the station's own clock and the calls.
+
+use crate::answer::{
+    Answer, BAD_LENGTH, BAD_SETUP, DONE, NO_CLOCK, NO_LINK, OUT_OF_RANGE, OUT_OF_SEQUENCE,
+    TOO_FEW_SAMPLES, TOO_LATE, TOO_OLD,
+};
+use crate::frame::{self, Fields, FRAME_LEN, MAC_LEN};
+use crate::port::{Heard, Port};
+use crate::rules::{self, DELAY_MOST, HOP_NONE, REACH_END};
+use crate::samples::{Sample, Samples};
+use crate::times::{grand, is_local, next_count, spread};
+use std::ops::RangeInclusive;
+
+/// The most ports that a bridge has.
+pub const PORTS_MOST: usize = 8;
+/// The timeouts that can be set.
+pub const TIMEOUTS: RangeInclusive<u64> = 1 << 36..=1 << 46;
+/// The timeout where none is given.
+pub const TIMEOUT_DEFAULT: u64 = 1 << 39;
+/// The greatest back time that can be set.
+pub const BACK_MOST: u64 = (1 << 39) - 1;
+/// The back time where none is given.
+pub const BACK_DEFAULT: u64 = 10_995_116_278;
+/// The number that stands for the station's own clock.
+pub const OWN: u8 = 0;
+
+/// What a setup is given.
+#[derive(Clone, Copy, Debug, Default, PartialEq, Eq)]
+pub struct Plan {
+    pub ports: u8,
+    pub mac: [u8; MAC_LEN],
+    pub precedence: u128,
+    pub capable: bool,
+    pub timeout: Option<u64>,
+    pub back: Option<u64>,
+    pub delays: [Option<u64>; PORTS_MOST],
+}
+
+/// What a setup settles for the whole bridge.
+#[derive(Clone, Copy, Debug, Default, PartialEq, Eq)]
+pub struct Settings {
+    pub mac: [u8; MAC_LEN],
+    pub precedence: u128,
+    pub capable: bool,
+    pub timeout: u64,
+    pub back: u64,
+}
+
+/// The station's own clock.
+#[derive(Clone, Copy, Debug, Default, PartialEq, Eq)]
+pub struct OwnClock {
+    pub last: Option<Heard>,
+    pub samples: Samples,
+}
+
+/// The clock that the station follows.
+#[derive(Clone, Copy, Debug, PartialEq, Eq, PartialOrd, Ord)]
+pub struct Chosen {
+    pub precedence: u128,
+    pub hop: u8,
+    pub port: u8,
+}
+
+/// A place where the ports of a bridge are kept.
+pub trait Table: AsRef<[Port]> + AsMut<[Port]> {
+    /// Makes the place for at most eight ports.
+    fn of(ports: &[Port]) -> Self;
+}
+
+impl Table for Vec<Port> {
+    /// Keeps the ports in a list.
+    fn of(ports: &[Port]) -> Self {
+        ports.to_vec()
+    }
+}
+
+/// A bridge over some place for its ports.
+#[derive(Clone, Copy, Debug, PartialEq, Eq)]
+pub struct Bridge<T> {
+    pub settings: Settings,
+    pub own: OwnClock,
+    pub ports: T,
+}
+
+/// The bridge with its ports in a list.
+pub type Listed = Bridge<Vec<Port>>;
+
+/// The calls of a bridge, one after another on one state.
+pub trait Calls {
+    /// Starts anew from a plan.
+    fn setup(&mut self, plan: &Plan) -> Answer;
+    /// Sets all links and gives how many are up.
+    fn links(&mut self, mask: u8) -> Result<u8, Answer>;
+    /// Takes a reading of the station's own clock.
+    fn own_clock(&mut self, count: u8, seconds: u64, fraction: u64, now: u64) -> Answer;
+    /// Takes a frame that arrived at a port.
+    fn receive(&mut self, port: u8, bytes: &[u8], arrival: u64) -> Answer;
+    /// Forgets what is stale.
+    fn age(&mut self, now: u64) -> Answer;
+    /// Gives port and held hop of the clock that is followed.
+    fn chosen(&mut self) -> Option<(u8, u8)>;
+    /// Writes the next frame of a port.
+    fn send(&mut self, port: u8, departure: u64, output: &mut [u8]) -> Answer;
+    /// Gives a clock's drift, if it has one to read.
+    fn drift(&mut self, port: u8) -> Result<Option<f64>, Answer>;
+}
+
+impl<T: Table> Bridge<T> {
+    /// Makes the bridge that a refused setup leaves.
+    pub fn empty() -> Self {
+        Bridge {
+            settings: Settings::default(),
+            own: OwnClock::default(),
+            ports: T::of(&[]),
+        }
+    }
+
+    /// Makes a bridge after a plan whose values are in range.
+    fn planned(plan: &Plan) -> Option<Self> {
+        let wanted = plan.delays.get(..usize::from(plan.ports))?;
+        let timeout = plan.timeout.unwrap_or(TIMEOUT_DEFAULT);
+        let back = plan.back.unwrap_or(BACK_DEFAULT);
+        let too_slow = wanted.iter().flatten().any(|delay| *delay > DELAY_MOST);
+        if wanted.is_empty() || !TIMEOUTS.contains(&timeout) || back > BACK_MOST || too_slow {
+            return None;
+        }
+        let ports: Vec<Port> = wanted.iter().map(|delay| Port::new(*delay)).collect();
+        Some(Bridge {
+            settings: Settings {
+                mac: plan.mac,
+                precedence: plan.precedence,
+                capable: plan.capable,
+                timeout,
+                back,
+            },
+            own: OwnClock::default(),
+            ports: T::of(&ports),
+        })
+    }
+
+    /// Gives the place of a port in the table.
+    fn place(&self, port: u8) -> Option<usize> {
+        let place = usize::from(port).checked_sub(1)?;
+        (place < self.ports.as_ref().len()).then_some(place)
+    }
+
+    /// Gives the best of all clocks that can be followed.
+    pub fn best(&self) -> Option<Chosen> {
+        let own = self.settings.capable.then_some(Chosen {
+            precedence: self.settings.precedence,
+            hop: 0,
+            port: OWN,
+        });
+        let heard = (1..).zip(self.ports.as_ref()).filter_map(|(port, kept)| {
+            let held = kept.record.announcement?;
+            Some(Chosen {
+                precedence: held.precedence,
+                hop: held.hop,
+                port,
+            })
+        });
+        own.into_iter().chain(heard).min()
+    }
+
+    /// Gives the samples of the own clock or of a port that is there.
+    pub fn samples(&self, port: u8) -> Option<&Samples> {
+        if port == OWN {
+            return Some(&self.own.samples);
+        }
+        self.place(port)
+            .map(|place| &self.ports.as_ref()[place].record.samples)
+    }
+
+    /// Gives the chosen clock, its newer error and the grand time for a departure, or refuses.
+    fn to_send(&self, departure: u64) -> Result<(Chosen, i32, u128), Answer> {
+        let chosen = self.best().ok_or(NO_CLOCK)?;
+        let (older, newer) = self
+            .samples(chosen.port)
+            .and_then(Samples::both)
+            .ok_or(TOO_FEW_SAMPLES)?;
+        if spread(departure, newer.local) >= REACH_END {
+            return Err(TOO_OLD);
+        }
+        let back = self.settings.back;
+        let sent = rules::sent_grand(older.point(), newer.point(), back, departure);
+        if !rules::fits_grand(sent) {
+            return Err(TOO_LATE);
+        }
+        Ok((chosen, newer.error, sent as u128))
+    }
+}
+
+impl OwnClock {
+    /// Takes a reading of a capable station's clock.
+    fn take(&mut self, count: u8, grand: u128, now: u64) -> Answer {
+        let before = self.last.replace(Heard { count, time: now });
+        match before.filter(|heard| count == next_count(heard.count)) {
+            Some(heard) => {
+                let sample = Sample {
+                    grand,
+                    local: heard.time,
+                    error: 0,
+                };
+                self.samples.take(sample, true);
+                DONE
+            }
+            None => OUT_OF_SEQUENCE,
+        }
+    }
+}
+
+impl<T: Table> Calls for Bridge<T> {
+    /// Starts anew from a plan, without ports if it is refused.
+    fn setup(&mut self, plan: &Plan) -> Answer {
+        match Self::planned(plan) {
+            Some(bridge) => {
+                *self = bridge;
+                DONE
+            }
+            None => {
+                *self = Self::empty();
+                BAD_SETUP
+            }
+        }
+    }
+
+    /// Sets each port's link from its bit, unless a bit has no port.
+    fn links(&mut self, mask: u8) -> Result<u8, Answer> {
+        let ports = self.ports.as_mut();
+        if usize::from(mask) >= 1 << ports.len() {
+            return Err(OUT_OF_RANGE);
+        }
+        for (bit, port) in ports.iter_mut().enumerate() {
+            port.set_link(mask & (1 << bit) != 0);
+        }
+        Ok(ports.iter().map(|port| u8::from(port.linked)).sum())
+    }
+
+    /// Takes a reading that belongs to the call before.
+    fn own_clock(&mut self, count: u8, seconds: u64, fraction: u64, now: u64) -> Answer {
+        match grand(seconds, fraction) {
+            Some(time) if is_local(now) => {
+                if self.settings.capable {
+                    self.own.take(count, time, now)
+                } else {
+                    NO_CLOCK
+                }
+            }
+            _ => OUT_OF_RANGE,
+        }
+    }
+
+    /// Hands a frame to its port, with the chosen hop as it stands before.
+    fn receive(&mut self, port: u8, bytes: &[u8], arrival: u64) -> Answer {
+        match self.place(port) {
+            Some(place) if is_local(arrival) => {
+                let chosen_hop = self.best().map_or(HOP_NONE, |chosen| chosen.hop);
+                self.ports.as_mut()[place].receive(chosen_hop, bytes, arrival)
+            }
+            _ => OUT_OF_RANGE,
+        }
+    }
+
+    /// Ages each port.
+    fn age(&mut self, now: u64) -> Answer {
+        if !is_local(now) {
+            return OUT_OF_RANGE;
+        }
+        let timeout = self.settings.timeout;
+        for port in self.ports.as_mut() {
+            port.age(now, timeout);
+        }
+        DONE
+    }
+
+    /// Gives port and held hop of the best clock.
+    fn chosen(&mut self) -> Option<(u8, u8)> {
+        self.best().map(|chosen| (chosen.port, chosen.hop))
+    }
+
+    /// Writes the next frame of a port, or refuses and leaves the output alone.
+    fn send(&mut self, port: u8, departure: u64, output: &mut [u8]) -> Answer {
+        let place = match self.place(port) {
+            Some(place) if is_local(departure) => place,
+            _ => return OUT_OF_RANGE,
+        };
+        if !self.ports.as_ref()[place].linked {
+            return NO_LINK;
+        }
+        if output.len() < FRAME_LEN {
+            return BAD_LENGTH;
+        }
+        let count = self.ports.as_mut()[place].use_count();
+        let (chosen, error, sent) = match self.to_send(departure) {
+            Ok(found) => found,
+            Err(refusal) => return refusal,
+        };
+        let echo = self.ports.as_ref()[place].record.echo;
+        let (that_tx, that_rx) = echo.unwrap_or((0, 0));
+        let fields = Fields {
+            sa: self.settings.mac,
+            precedence: chosen.precedence,
+            hop: chosen.hop,
+            count,
+            grand: sent,
+            local: departure,
+            that_tx,
+            that_rx,
+            error,
+        };
+        frame::write(&fields, output)
+    }
+
+    /// Gives the drift over a clock's own two samples.
+    fn drift(&mut self, port: u8) -> Result<Option<f64>, Answer> {
+        let samples = self.samples(port).ok_or(OUT_OF_RANGE)?;
+        Ok(samples.rate().map(rules::parts_per_million))
+    }
+}

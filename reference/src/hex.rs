@@ -1,0 +1,62 @@
+//! Hexadecimal digits, read and written.
+
+/// The most digits of a number in a line.
+pub const NUMBER_DIGITS: usize = 16;
+
+const DIGITS: &[u8; 16] = b"0123456789ABCDEF";
+
+/// Gives the value of a digit of either case.
+pub fn digit(letter: u8) -> Option<u8> {
+    match letter {
+        b'0'..=b'9' => Some(letter - b'0'),
+        b'A'..=b'F' => Some(letter - b'A' + 10),
+        b'a'..=b'f' => Some(letter - b'a' + 10),
+        _ => None,
+    }
+}
+
+/// Reads 1 to 16 digits as a number.
+pub fn number(text: &[u8]) -> Option<u64> {
+    if text.is_empty() || text.len() > NUMBER_DIGITS {
+        return None;
+    }
+    text.iter().try_fold(0, |n: u64, letter| {
+        Some((n << 4) + u64::from(digit(*letter)?))
+    })
+}
+
+/// Reads pairs of digits over the start of a room and gives the bytes, if they are digits and fit.
+pub fn bytes<'a>(text: &[u8], room: &'a mut [u8]) -> Option<&'a [u8]> {
+    let pairs = text.chunks_exact(2);
+    if !pairs.remainder().is_empty() {
+        return None;
+    }
+    let found = room.get_mut(..pairs.len())?;
+    for (byte, pair) in found.iter_mut().zip(pairs) {
+        *byte = 16 * digit(pair[0])? + digit(pair[1])?;
+    }
+    Some(found)
+}
+
+/// Appends a byte as two capital digits.
+pub fn put_byte(out: &mut Vec<u8>, byte: u8) {
+    out.push(DIGITS[usize::from(byte / 16)]);
+    out.push(DIGITS[usize::from(byte % 16)]);
+}
+
+/// Appends bytes as capital digits, or a dash for none.
+pub fn put_bytes(out: &mut Vec<u8>, bytes: &[u8]) {
+    if bytes.is_empty() {
+        out.push(b'-');
+    }
+    for byte in bytes {
+        put_byte(out, *byte);
+    }
+}
+
+/// Appends the lowest digits of a number, as many as are wanted.
+pub fn put_number(out: &mut Vec<u8>, number: u128, digits: usize) {
+    for place in (0..digits).rev() {
+        out.push(DIGITS[(number >> (4 * place)) as usize % 16]);
+    }
+}

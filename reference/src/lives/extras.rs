@@ -1,0 +1,306 @@
+//! Calls that fit any moment: questions, calls at a limit, and calls by chance.
+
+use super::pen::Pen;
+use super::plans;
+use super::random::Random;
+use super::spoil;
+use crate::bridge::OWN;
+use crate::frame::{self, Fields, FRAME_LEN};
+use crate::replay::BYTES_MOST;
+use crate::rules::{self, REACH_END};
+use crate::times::{moved, GRAND_END, LOCAL_END, PART_END};
+
+/// Gives a local time, often one at an end of the circle or out of range.
+pub fn any_local(random: &mut Random) -> u64 {
+    match random.below(12) {
+        0 => 0,
+        1 => LOCAL_END - 1,
+        2 => LOCAL_END,
+        3 => random.pick(&[LOCAL_END + 1, u64::MAX]),
+        4 => random.sized(64),
+        5 => random.sized(48),
+        _ => random.below(LOCAL_END),
+    }
+}
+
+/// Gives seconds or a fraction, often at an end or out of range.
+fn any_part(random: &mut Random) -> u64 {
+    match random.below(10) {
+        0 => 0,
+        1 => PART_END - 1,
+        2 => PART_END,
+        3 => random.sized(64),
+        _ => random.below(PART_END),
+    }
+}
+
+/// Gives the length of an output, mostly that of a frame.
+pub fn output_length(random: &mut Random) -> u64 {
+    if random.often(900) {
+        return FRAME_LEN as u64;
+    }
+    random.pick(&[0, 1, 63, 63, 64, 65, 65, 100, 127, 128, 128, 129])
+}
+
+/// Gives a port number, mostly one that the bridge has.
+pub fn any_port(pen: &mut Pen) -> u8 {
+    let ports = pen.bridge().ports.len() as u64;
+    match pen.random.below(20) {
+        0 => 0,
+        1 => (ports + 1) as u8,
+        2 => pen.random.bits() as u8,
+        _ => pen.random.within(1, ports.max(1)) as u8,
+    }
+}
+
+/// Gives a linked port, if there is one.
+pub fn linked_port(pen: &mut Pen) -> Option<u8> {
+    let linked: Vec<u8> = (1..)
+        .zip(&pen.bridge().ports)
+        .filter_map(|(number, port)| port.linked.then_some(number))
+        .collect();
+    (!linked.is_empty()).then(|| pen.random.pick(&linked))
+}
+
+/// Asks something of the bridge that changes nothing.
+pub fn ask(pen: &mut Pen) {
+    if pen.random.often(400) {
+        pen.chosen();
+        return;
+    }
+    let port = match pen.bridge().best() {
+        Some(chosen) if pen.random.often(500) => chosen.port,
+        _ => any_port(pen),
+    };
+    pen.drift(port);
+}
+
+/// Sends with a departure at a limit of the chosen clock's reach or of grand time.
+pub fn edge_send(pen: &mut Pen) {
+    let Some(port) = linked_port(pen) else {
+        return;
+    };
+    let bridge = pen.bridge();
+    let back = bridge.settings.back;
+    let chosen = bridge.best().map_or(OWN, |chosen| chosen.port);
+    let samples = bridge.samples(chosen).copied().unwrap_or_default();
+    let Some(newest) = samples.newest else {
+        let departure = any_local(&mut pen.random);
+        pen.send(port, departure, FRAME_LEN as u64);
+        return;
+    };
+    let top = samples.both().and_then(|(older, newer)| {
+        let sent = |reach| {
+            let departure = moved(newer.local, i128::from(reach));
+            rules::sent_grand(older.point(), newer.point(), back, departure)
+        };
+        first_unfit(sent)
+    });
+    let reach = match (top, pen.random.below(10)) {
+        (Some(top), 0..=6) => i128::from(top) - pen.random.pick(&[0, 1, 1, 2]),
+        (_, 0) => -1,
+        (_, 1 | 2) => i128::from(REACH_END) - 1,
+        (_, 3 | 4) => i128::from(REACH_END),
+        (_, 5) => i128::from(back) + pen.random.about(1),
+        (_, 6) => 0,
+        (_, 7) => pen.random.about(3),
+        _ => i128::from(pen.random.sized(39)),
+    };
+    let departure = moved(newest.local, reach);
+    pen.send(port, departure, FRAME_LEN as u64);
+}
+
+/// Finds the first reach whose sent time does not fit, where there is one.
+fn first_unfit(sent: impl Fn(u64) -> i128) -> Option<u64> {
+    let (mut low, mut high) = (0, REACH_END);
+    if rules::fits_grand(sent(high - 1)) {
+        return None;
+    }
+    while low < high {
+        let middle = (low + high) / 2;
+        if rules::fits_grand(sent(middle)) {
+            low = middle + 1;
+        } else {
+            high = middle;
+        }
+    }
+    Some(low)
+}
+
+/// Ages with a time at the limit of one announcement.
+pub fn edge_age(pen: &mut Pen) {
+    let timeout = i128::from(pen.bridge().settings.timeout);
+    let times: Vec<u64> = pen
+        .bridge()
+        .ports
+        .iter()
+        .filter_map(|port| port.record.announcement.map(|held| held.heard_at))
+        .collect();
+    if times.is_empty() {
+        return;
+    }
+    let heard_at = pen.random.pick(&times);
+    pen.age(moved(heard_at, timeout - 1));
+    let later = match pen.random.below(6) {
+        0 => -1,
+        1 => 0,
+        2 => timeout + 1,
+        _ => timeout,
+    };
+    pen.age(moved(heard_at, later));
+    pen.chosen();
+}
+
+/// Reads, writes or compares frames.
+pub fn play_frames(pen: &mut Pen) {
+    match pen.random.below(3) {
+        0 => {
+            let bytes = some_frame(pen);
+            pen.read(&bytes);
+        }
+        1 => write_frame(pen),
+        _ => compare_frames(pen),
+    }
+}
+
+/// Gives a frame that was seen, or a damaged one, or bytes by chance.
+pub fn some_frame(pen: &mut Pen) -> Vec<u8> {
+    let whole = pen.remembered();
+    match pen.random.below(10) {
+        0..=2 => spoil::frame(&mut pen.random, &whole),
+        3 => {
+            let length = pen.random.pick(&[0, 1, 63, 64, 64, 64, 65, BYTES_MOST]);
+            (0..length).map(|_| pen.random.bits() as u8).collect()
+        }
+        4 => dressed(pen),
+        _ => whole.to_vec(),
+    }
+}
+
+/// Gives a frame of chance fields with the fixed bytes right.
+fn dressed(pen: &mut Pen) -> Vec<u8> {
+    let fields = any_fields(&mut pen.random);
+    frame::put_together(&fields).to_vec()
+}
+
+/// Gives fields by chance, all in range.
+fn any_fields(random: &mut Random) -> Fields {
+    Fields {
+        sa: [2, 0, 0, 0, 0, random.bits() as u8],
+        precedence: plans::precedence(random),
+        hop: random.pick(&[0, 1, 2, 3, 253, 254, 255]),
+        count: random.bits() as u8,
+        grand: (u128::from(random.bits()) << 64 | u128::from(random.bits())) % GRAND_END,
+        local: random.below(LOCAL_END),
+        that_tx: random.below(LOCAL_END),
+        that_rx: random.below(LOCAL_END),
+        error: random.bits() as i32,
+    }
+}
+
+/// Writes fields, now and then with a time out of range.
+fn write_frame(pen: &mut Pen) {
+    let mut fields = any_fields(&mut pen.random);
+    let random = &mut pen.random;
+    let (mut seconds, mut fraction) = (random.below(PART_END), random.below(PART_END));
+    match random.below(8) {
+        0 => seconds = any_part(random),
+        1 => fraction = any_part(random),
+        2 => fields.local = any_local(random),
+        3 => fields.that_tx = any_local(random),
+        4 => fields.that_rx = any_local(random),
+        _ => fields.precedence |= u128::from(random.bits()) << 20,
+    }
+    let length = if random.often(500) {
+        FRAME_LEN as u64
+    } else {
+        random.pick(&[0, 1, 63, 63, 64, 65, 66, 127, 128, 129])
+    };
+    pen.write(&fields, seconds, fraction, length);
+}
+
+/// Compares two frames, often ones that differ in little.
+fn compare_frames(pen: &mut Pen) {
+    let first = some_frame(pen);
+    let second = if pen.random.often(400) {
+        near_frame(pen, &first)
+    } else {
+        some_frame(pen)
+    };
+    if pen.random.often(500) {
+        pen.better(&first, &second);
+    } else {
+        pen.better(&second, &first);
+    }
+}
+
+/// Gives a frame that differs from another in precedence or hop only, or not at all.
+fn near_frame(pen: &mut Pen, bytes: &[u8]) -> Vec<u8> {
+    let Ok(mut fields) = frame::read(bytes) else {
+        return bytes.to_vec();
+    };
+    let random = &mut pen.random;
+    match random.below(4) {
+        0 => fields.hop = random.pick(&[fields.hop.saturating_add(1), 254, 255, 0]),
+        1 => fields.precedence = plans::precedence(random),
+        2 => fields.precedence ^= 1 << random.below(104),
+        _ => fields.grand = 0,
+    }
+    fields.sa[5] ^= 1;
+    frame::put_together(&fields).to_vec()
+}
+
+/// Makes calls by chance on whatever bridge there is, at times after a refused setup.
+pub fn wander(pen: &mut Pen) {
+    if pen.random.often(400) {
+        let plan = plans::refused(&mut pen.random);
+        pen.setup(&plan);
+    } else if pen.random.often(200) {
+        let plan = plans::good(&mut pen.random);
+        pen.setup(&plan);
+    }
+    let lines = pen.random.within(3, 25);
+    for _ in 0..lines {
+        if pen.done() {
+            return;
+        }
+        any_call(pen);
+    }
+}
+
+/// Makes one call by chance.
+pub fn any_call(pen: &mut Pen) {
+    let port = any_port(pen);
+    let time = any_local(&mut pen.random);
+    match pen.random.below(12) {
+        0 => {
+            let beyond = 1_u64 << pen.bridge().ports.len();
+            let chance = pen.random.bits() >> pen.random.below(9);
+            let mask = pen.random.pick(&[chance, beyond, beyond - 1]);
+            pen.links(mask as u8);
+        }
+        1 | 2 => {
+            let (seconds, fraction) = (any_part(&mut pen.random), any_part(&mut pen.random));
+            let count = pen.random.bits() as u8;
+            pen.own_clock(count, seconds, fraction, time);
+        }
+        3 | 4 => {
+            let bytes = some_frame(pen);
+            pen.receive(port, &bytes, time);
+        }
+        5 => {
+            pen.age(time);
+        }
+        6 => ask(pen),
+        7 | 8 => {
+            let length = output_length(&mut pen.random);
+            pen.send(port, time, length);
+        }
+        9 => {
+            let mut line = Vec::new();
+            spoil::nonsense(&mut pen.random, &mut line);
+            pen.raw(&line);
+        }
+        _ => play_frames(pen),
+    }
+}

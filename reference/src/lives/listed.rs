@@ -1,0 +1,87 @@
+//! Lines for the listing program, made from the arrivals among other lines.
+
+use super::random::Random;
+use super::spoil;
+use crate::frame::FRAME_LEN;
+use crate::hex;
+use crate::listing::LINE_DIGITS;
+
+/// In a thousand lines, how many are led by a spoiled copy.
+const SPOILED: u64 = 20;
+/// In a thousand lines, how many are written with small letters.
+const SMALL: u64 = 100;
+/// In a thousand lines for ports that the listing program has not, how many are kept.
+const BEYOND: u64 = 80;
+/// How many ports the listing program has.
+const PORTS: u64 = 2;
+
+/// A maker of lines for the listing program.
+pub struct Lister {
+    random: Random,
+}
+
+impl Default for Lister {
+    /// Starts with a seed of its own.
+    fn default() -> Self {
+        Lister {
+            random: Random::new(0),
+        }
+    }
+}
+
+impl Lister {
+    /// Appends what a line gives, each line with its newline.
+    pub fn put(&mut self, line: &[u8], out: &mut Vec<u8>) {
+        let Some((port, mut listed)) = arrival(line) else {
+            return;
+        };
+        if port > PORTS && !self.random.often(BEYOND) {
+            return;
+        }
+        if self.random.often(SMALL) {
+            listed.make_ascii_lowercase();
+        }
+        if self.random.often(SPOILED) {
+            let mut spoiled = listed.clone();
+            self.spoil(&mut spoiled);
+            out.extend_from_slice(&spoiled);
+            out.push(b'\n');
+        }
+        out.extend_from_slice(&listed);
+        out.push(b'\n');
+    }
+
+    /// Makes a line wrong in its length or in its digits.
+    fn spoil(&mut self, line: &mut Vec<u8>) {
+        let place = self.random.below(LINE_DIGITS as u64) as usize;
+        match self.random.below(8) {
+            0 => line.clear(),
+            1 => line.push(b'0'),
+            2 => line.push(b'\r'),
+            3 => line.truncate(place),
+            4 => line[place] = self.random.pick(b"gG -\r\0/:@`\xFF"),
+            5 => line.insert(place, b' '),
+            6 => spoil::nonsense(&mut self.random, line),
+            _ => line[place] = self.random.pick(b"0123456789abcdefABCDEF"),
+        }
+    }
+}
+
+/// Gives the port and a line of port, arrival and frame for the line of an arrival whose parts fit.
+fn arrival(line: &[u8]) -> Option<(u64, Vec<u8>)> {
+    let mut parts = line.split(|letter| *letter == b' ');
+    if parts.next()? != b"R" {
+        return None;
+    }
+    let port = hex::number(parts.next()?)?;
+    let arrival = hex::number(parts.next()?)?;
+    let frame = parts.next()?;
+    if frame.len() != 2 * FRAME_LEN || parts.next().is_some() {
+        return None;
+    }
+    let mut listed = Vec::with_capacity(LINE_DIGITS);
+    hex::put_number(&mut listed, u128::from(port), 2);
+    hex::put_number(&mut listed, u128::from(arrival), 12);
+    listed.extend_from_slice(frame);
+    Some((port, listed))
+}

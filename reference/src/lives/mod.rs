@@ -1,0 +1,40 @@
+//! A seeded generator of lines that live through a bridge's life, and through many of them.
+
+mod aimed;
+pub mod census;
+mod extras;
+pub mod listed;
+mod network;
+mod pen;
+mod plans;
+mod random;
+mod spoil;
+
+use pen::Pen;
+use random::Random;
+use std::io;
+
+/// Of a hundred lives, how many are of a network of drifting neighbours.
+const NETWORK_SHARE: u64 = 62;
+/// Of a hundred lives, how many are of frames aimed at the limits.
+const AIMED_SHARE: u64 = 28;
+
+/// A taker of each line and its answer.
+pub type Sink<'s> = &'s mut dyn FnMut(&[u8], &[u8]) -> io::Result<()>;
+
+/// Makes lines from a seed and hands each with its answer to a sink.
+pub fn lives(lines: u64, seed: u64, sink: Sink) -> io::Result<()> {
+    let mut pen = Pen::new(lines, Random::new(seed), sink);
+    extras::wander(&mut pen);
+    while !pen.done() {
+        let kind = pen.random.below(100);
+        if kind < NETWORK_SHARE {
+            network::live(&mut pen);
+        } else if kind < NETWORK_SHARE + AIMED_SHARE {
+            aimed::live(&mut pen);
+        } else {
+            extras::wander(&mut pen);
+        }
+    }
+    pen.finish()
+}

@@ -1,0 +1,103 @@
+//! The arithmetic of rates, delays, hops and sent times.
+
+use crate::times::{spread, GRAND_END};
+
+/// The least local spread that gives a rate.
+pub const SPREAD_LEAST: u64 = 1 << 30;
+/// The greatest local spread that gives a rate.
+pub const SPREAD_MOST: u64 = 1 << 39;
+/// The least ratio of a spread to its difference, 250 parts per million.
+pub const STEADINESS: u128 = 4_000;
+/// What a rate of one whole is counted as.
+pub const RATE_ONE: i128 = 1 << 35;
+/// The greatest round trip and the greatest turn that are believed.
+pub const TRIP_MOST: u64 = 1 << 39;
+/// The greatest delay that is believed or set.
+pub const DELAY_MOST: u64 = 1 << 30;
+/// The first distance from the newer sample that is too great for a send.
+pub const REACH_END: u64 = 1 << 39;
+/// The hop that stands for no clock, and that no frame is taken with.
+pub const HOP_NONE: u8 = 255;
+/// What a rate is multiplied with before it is a reading in parts per million.
+pub const MILLION: i128 = 1_000_000;
+
+/// Says whether a spread is in range and the difference small against it.
+pub fn steady(difference: i128, local_spread: u64) -> bool {
+    (SPREAD_LEAST..=SPREAD_MOST).contains(&local_spread)
+        && difference.unsigned_abs() * STEADINESS <= u128::from(local_spread)
+}
+
+/// Gives the rate of a difference over a spread, rounded down.
+pub fn rate(difference: i128, local_spread: u64) -> i128 {
+    (difference * RATE_ONE).div_euclid(i128::from(local_spread))
+}
+
+/// Gives what a rate makes of a stretch of time, rounded down.
+pub fn rated(rate: i128, stretch: i128) -> i128 {
+    (rate * stretch).div_euclid(RATE_ONE)
+}
+
+/// Gives the neighbour's rate between two pairs of its departure and its arrival here.
+pub fn neighbour_rate(before: Option<(u64, u64)>, now: (u64, u64)) -> i128 {
+    let Some((old_local, old_arrival)) = before else {
+        return 0;
+    };
+    let local_spread = spread(now.0, old_local);
+    let difference = i128::from(spread(now.1, old_arrival)) - i128::from(local_spread);
+    if steady(difference, local_spread) {
+        rate(difference, local_spread)
+    } else {
+        0
+    }
+}
+
+/// Gives half of what a round trip took beyond the neighbour's turn, never below zero.
+pub fn link_delay(rate: i128, round_trip: u64, turn: u64) -> i128 {
+    let scaled = i128::from(turn) + rated(rate, i128::from(turn));
+    let half = (i128::from(round_trip) - scaled).div_euclid(2);
+    half.max(0)
+}
+
+/// Gives the measured delay where round trip, turn and delay are believable.
+pub fn measured_delay(rate: i128, round_trip: u64, turn: u64) -> Option<u64> {
+    let delay = link_delay(rate, round_trip, turn);
+    if round_trip <= TRIP_MOST && turn <= TRIP_MOST && delay <= i128::from(DELAY_MOST) {
+        Some(delay as u64)
+    } else {
+        None
+    }
+}
+
+/// Gives the hop to hold for a frame's hop below 255 against the chosen clock's hop.
+pub fn held_hop(chosen_hop: u8, hop: u8) -> u8 {
+    let left = HOP_NONE - hop;
+    hop + if hop > chosen_hop { left / 2 } else { 1 }
+}
+
+/// Gives the rate between two samples of grand time and local time.
+pub fn sample_rate(older: (u128, u64), newer: (u128, u64)) -> i128 {
+    let local_spread = spread(newer.1, older.1);
+    rate(sample_difference(older, newer), local_spread)
+}
+
+/// Gives the grand spread of two samples less their local spread.
+pub fn sample_difference(older: (u128, u64), newer: (u128, u64)) -> i128 {
+    newer.0 as i128 - older.0 as i128 - i128::from(spread(newer.1, older.1))
+}
+
+/// Gives the grand time of a departure on the line through two samples, set back by the back time.
+pub fn sent_grand(older: (u128, u64), newer: (u128, u64), back: u64, departure: u64) -> i128 {
+    let reach = i128::from(spread(departure, newer.1));
+    let stretch = reach - i128::from(back);
+    newer.0 as i128 + reach + rated(sample_rate(older, newer), stretch)
+}
+
+/// Says whether a worked-out grand time can stand in a frame.
+pub fn fits_grand(time: i128) -> bool {
+    time < GRAND_END as i128
+}
+
+/// Gives the reading in parts per million for a rate.
+pub fn parts_per_million(rate: i128) -> f64 {
+    (rate * MILLION) as f64 / RATE_ONE as f64
+}
