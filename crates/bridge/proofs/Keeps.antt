@@ -1,12 +1,12 @@
 -- Lawful is kept: Setup hands back a lawful state whatever it answers, and so does every call on a lawful state.
-use mathlib.Core.Path.{_≡_, refl, sym, ap, _∙_, subst}
-use mathlib.Core.Bool.{Bool, true, false, cond, _&&_}
-use mathlib.Core.List.{List, [], _∷_}
-use Prim.Native.Nat.{ℕ, zero, suc, _+_, _-_, _^_, _<_, _≤_}
+use mathlib.Core.Path.{_≡_, refl, _∙_}
+use mathlib.Core.Bool.{Bool, false, _&&_}
+use mathlib.Core.List.{List}
+use Prim.Native.Nat.{ℕ, zero, suc, _-_, _^_, _<_, _≤_}
 use native.Mathlib.Omega.{arith}
 use borrow.Author.Tests.{leb-true, leb-false, ltb-true, eqb-true}
 use lib.Dec.{leb, ltb, eqb}
-use lib.ListN.{length, getD, set, take, replicate, length-set}
+use lib.ListN.{length, set, replicate, length-set}
 use lib.Pow.{pow-pos}
 use Rattle.numbers.proofs.Places.{Bytes}
 use Rattle.times.specs.Times.{circle}
@@ -21,27 +21,27 @@ use Rattle.frame.specs.declared.Mac.{Mac}
 use Rattle.frame.specs.declared.Precedence.{Precedence}
 use Rattle.frame.specs.declared.Reading.{Reading}
 use Rattle.frame.specs.declared.Reading.the-variants.{Frame, Refused}
-use Rattle.port.specs.Record.{emptyPort, emptyClock}
-use Rattle.port.specs.Lawful.{LawfulPort, LawfulClock, FieldsInRange}
+use Rattle.port.specs.Record.{emptyPort}
+use Rattle.port.specs.Lawful.{LawfulPort, FieldsInRange}
 use Rattle.port.specs.declared.Port.{Port}
 use Rattle.port.specs.declared.Setting.{Setting}
 use Rattle.port.specs.declared.Sending.the-variants as Sendings
 use Rattle.port.proofs.Choices.{if-when}
 use Rattle.port.proofs.PortLaws.{empty-lawful, used-lawful, aged-lawful, received-lawful, told-lawful, read-in-range, sending-written}
 use Rattle.bridge.specs.Table.{each, portAt}
-use Rattle.bridge.specs.State.{mostPorts, Lawful, withPorts, withPort, answers}
+use Rattle.bridge.specs.State.{mostPorts, Lawful, withPorts, withPort}
 use Rattle.bridge.specs.Refusals.{bit, portNo, sendNo, ownNo, maskBeyond}
-use Rattle.bridge.specs.Setup.{leastTimeout, greatestTimeout, delaysFit, setupFits, freshOf, noBridge, setupOf}
+use Rattle.bridge.specs.Setup.{leastTimeout, greatestTimeout, setupFits, freshOf, setupOf}
 use Rattle.bridge.specs.Links.{relinkedPort, linksOf}
 use Rattle.bridge.specs.Own.{ownClockOf}
-use Rattle.bridge.specs.Receive.{delayAt, heardOf, readBy, receiveOf}
+use Rattle.bridge.specs.Receive.{heardOf, readBy, receiveOf}
 use Rattle.bridge.specs.Age.{ageOf}
 use Rattle.bridge.specs.Send.{composedOf, usedOf, sendOf}
 use Rattle.bridge.specs.declared.Bridge.{Bridge}
 use Rattle.bridge.specs.declared.Done.{Done}
 use Rattle.bridge.specs.declared.Linked.{Linked}
 use Rattle.bridge.proofs.Walk.{each-length, each-all, set-all}
-use Rattle.bridge.proofs.CheckLaws.{port-ready, send-ready, own-ready}
+use Rattle.bridge.proofs.CheckLaws.{port-ready, own-ready}
 
 abbrev Next : Done → Type 0
 Next d = Lawful (d .next)

@@ -3,20 +3,17 @@
 use mathlib.Core.Path.{_≡_, refl, sym, ap, _∙_, subst}
 use mathlib.Core.Bool.{Bool, true, false, cond}
 use mathlib.Core.List.{List}
-use Prim.Native.Nat.{ℕ, _-_, _<_, _≤_}
-use native.Mathlib.Omega.{arith}
-use borrow.Author.Tests.{eqb-true, eqb-false, eq-eqb}
+use Prim.Native.Nat.{ℕ, _-_, _<_}
+use borrow.Author.Tests.{eqb-false}
 use lib.Dec.{eqb}
-use lib.IntN.{ℤ, pos}
+use lib.IntN.{pos}
 use lib.ListN.{length, drop}
 use Rattle.numbers.specs.Digits.{numberAt}
 use Rattle.times.specs.Times.{sinceOf, units}
 use Rattle.times.specs.Keep.{LawfulSamples}
 use Rattle.times.specs.Sent.{reachOf}
 use Rattle.times.specs.Line.{NearLine}
-use Rattle.times.specs.declared.LocalTime.{LocalTime}
 use Rattle.times.specs.declared.Sample.{Sample}
-use Rattle.times.specs.declared.Samples.{Samples}
 use Rattle.times.specs.declared.Samples.the-variants.{Two}
 use Rattle.times.proofs.SentLaws.{sent-range}
 use Rattle.times.proofs.Bound.{sent-near}
@@ -26,7 +23,6 @@ use Rattle.frame.specs.declared.Fields.{Fields}
 use Rattle.frame.proofs.Trip.{grand-bytes, count-byte}
 use Rattle.port.specs.Send.{sendingNo}
 use Rattle.port.specs.declared.Sending.{Sending}
-use Rattle.port.specs.declared.Sending.the-variants.{Frame}
 use Rattle.port.proofs.PortLaws.{ReadOff, sending-read-off}
 use Rattle.bridge.specs.Table.{portAt}
 use Rattle.bridge.specs.State.{Lawful, answers}
@@ -34,7 +30,6 @@ use Rattle.bridge.specs.Refusals.{sendNo}
 use Rattle.bridge.specs.Chosen.{chosenOf}
 use Rattle.bridge.specs.Send.{chosenSamples, composedOf, usedOf, sendOf, filledBy, sendBytes}
 use Rattle.bridge.specs.declared.Bridge.{Bridge}
-use Rattle.bridge.specs.declared.Done.{Done}
 use Rattle.bridge.proofs.TableLaws.{chosen-lawful}
 
 -- grandTime stands in these bytes of a frame

@@ -2,7 +2,7 @@
 use mathlib.Core.Path.{_≡_, refl, ap, _∙_}
 use mathlib.Core.Bool.{Bool, true, false, cond}
 use mathlib.Core.List.{List}
-use Prim.Native.Nat.{ℕ, _-_, _<_, _≤_}
+use Prim.Native.Nat.{ℕ, _-_, _≤_}
 use native.Mathlib.Omega.{arith}
 use lib.Dec.{eqb, leb, ltb}
 use lib.ListN.{length}
@@ -19,7 +19,6 @@ use Rattle.port.specs.Send.{sendingNo}
 use Rattle.port.specs.declared.Last.the-variants.{Was}
 use Rattle.port.specs.declared.Setting.{Setting}
 use Rattle.port.specs.declared.Sending.{Sending}
-use Rattle.port.specs.declared.Sending.the-variants as Sendings
 use Rattle.port.proofs.Choices.{if-when}
 use Rattle.port.proofs.PortLaws.{received-refused, told-refused, NoFrame, sending-refused}
 use Rattle.bridge.specs.Table.{portAt}
@@ -34,8 +33,7 @@ use Rattle.bridge.specs.Send.{composedOf, usedOf, sendOf, filledBy, send
 use Rattle.bridge.specs.declared.Bridge.{Bridge}
 use Rattle.bridge.specs.declared.Done.{Done}
 use Rattle.bridge.specs.declared.Linked.{Linked}
-use Rattle.bridge.specs.declared.LinkCount.{LinkCount}
-use Rattle.bridge.specs.declared.LinkCount.the-variants.{Refused, Up}
+use Rattle.bridge.specs.declared.LinkCount.the-variants.{Refused}
 
 -- setup, 1: what stands for no state
 pub setup-none : (n : ℕ) (mac : Mac) (own : Precedence) (capable : Bool) (timeout back : ℕ) (settings : List Setting)

@@ -1,15 +1,13 @@
 -- Laws of the calls: what each definition comes to, case by case.
 use mathlib.Core.Path.{_≡_, refl, sym, ap, _∙_}
 use mathlib.Core.Bool.{Bool, true, false, cond, _&&_}
-use mathlib.Core.List.{List, [], _∷_}
-use Prim.Native.Nat.{ℕ, zero, suc, _-_, _<_, _≤_}
-use native.Mathlib.Omega.{arith}
+use mathlib.Core.List.{List}
+use Prim.Native.Nat.{ℕ, _-_, _<_, _≤_}
 use borrow.Author.Tests.{eq-eqb, ne-eqb, lt-ltb, le-ltb}
 use lib.Count.{ones}
-use lib.Dec.{eqb, ltb, leb}
+use lib.Dec.{eqb, leb}
 use lib.ListN.{length, drop}
 use Rattle.times.specs.Times.{circle}
-use Rattle.times.specs.declared.LocalTime.{LocalTime}
 use Rattle.times.specs.declared.Drift.{Drift}
 use Rattle.times.specs.declared.Drift.the-variants as Drifts
 use Rattle.times.specs.Drift.{driftOf}
@@ -20,7 +18,6 @@ use Rattle.frame.specs.declared.Fields.{Fields}
 use Rattle.frame.specs.declared.Mac.{Mac}
 use Rattle.frame.specs.declared.Precedence.{Precedence}
 use Rattle.frame.specs.declared.Reading.{Reading}
-use Rattle.frame.specs.declared.Reading.the-variants as Readings
 use Rattle.port.specs.Record.{emptyPort, agedPort}
 use Rattle.port.specs.Own.{toldOf}
 use Rattle.port.specs.Send.{sendingNo, deliveredNo, deliveredBytes}
@@ -31,12 +28,12 @@ use Rattle.port.specs.declared.Sending.{Sending}
 use Rattle.port.specs.declared.Sending.the-variants as Sendings
 use Rattle.port.proofs.Choices.{if-true, if-false}
 use Rattle.bridge.specs.Table.{each, samplesAt}
-use Rattle.bridge.specs.State.{withPorts, withClock, withLinks, answers, linked}
+use Rattle.bridge.specs.State.{withPorts, withLinks, answers, linked}
 use Rattle.bridge.specs.Refusals.{bit, portNo, sendNo, ownNo, maskBeyond}
 use Rattle.bridge.specs.Setup.{setupFits, freshOf, noBridge, setupOf}
 use Rattle.bridge.specs.Links.{relinkedPort, linksOf}
 use Rattle.bridge.specs.Own.{toldAs, ownClockOf}
-use Rattle.bridge.specs.Receive.{heardOf, readBy, receiveOf}
+use Rattle.bridge.specs.Receive.{readBy, receiveOf}
 use Rattle.bridge.specs.Age.{ageOf}
 use Rattle.bridge.specs.Send.{composedOf, usedOf, sendOf, filledBy, sendBytes}
 use Rattle.bridge.specs.Drift.{driftAt}

@@ -3,14 +3,12 @@ use mathlib.Core.Path.{_≡_, refl, sym, ap, _∙_}
 use mathlib.Core.Bool.{Bool, true, false, _&&_}
 use mathlib.Core.List.{List, [], _∷_}
 use Prim.Native.Nat.{ℕ, zero, suc, _+_, _-_, _<_, _≤_}
-use native.Mathlib.Nat.{le-antisymm}
 use native.Mathlib.Numerals.{add-one, sub-one}
 use native.Mathlib.Omega.{arith}
 use lib.Dec.{ltb}
 use lib.ListN.{length, getD, take, drop}
 use lib.Seq.{drop-cons, drop-length, getD-take, length-take-le}
 use Rattle.times.specs.Keep.{LawfulSamples}
-use Rattle.times.specs.declared.Samples.{Samples}
 use Rattle.port.specs.Lawful.{LawfulPort, LawfulClock}
 use Rattle.port.specs.Choose.{rankOf, candidateOf, ownCandidate, betterOf}
 use Rattle.port.specs.declared.Heard.{Heard}

@@ -1,8 +1,7 @@
 // The refusals that are found before any record is looked at, over numbers alone.
 ghost use mathlib.Core.Path.{_≡_};
 ghost use Prim.Native.Nat.{_≤_};
-ghost use mathlib.Core.Bool.{not};
-ghost use lib.Dec.{ltb, leb};
+ghost use lib.Dec.{leb};
 ghost use lib.ListN.{take};
 ghost use Rattle.times.specs.Times.{circle};
 ghost use Rattle.bridge.specs.Refusals.{hasLink, portNo, sendNo, ownNo, maskBeyond};

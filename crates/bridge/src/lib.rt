@@ -5,7 +5,6 @@ pub mod table;
 ghost use mathlib.Core.Path.{_≡_};
 ghost use Prim.Native.Nat.{_<_};
 ghost use lib.ListN.{length};
-ghost use Rattle.times.specs.Times.{circle};
 ghost use Rattle.port.specs.Lawful.{FieldsInRange};
 ghost use Rattle.bridge.specs.State.{Lawful};
 ghost use Rattle.bridge.specs.Setup.{freshOf, setupOf};

@@ -2,8 +2,7 @@
 ghost use mathlib.Core.Path.{_≡_};
 ghost use Prim.Native.Nat.{_<_, _≤_};
 ghost use lib.ListN.{replicate};
-ghost use Rattle.port.specs.Lawful.{LawfulPort};
-ghost use Rattle.port.specs.Record.{emptyPort, agedPort};
+ghost use Rattle.port.specs.Record.{agedPort};
 ghost use Rattle.bridge.specs.Table.{each, samplesAt, samplesOfChoice, numberOf};
 ghost use Rattle.bridge.specs.Setup.{measuredSetting};
 ghost use Rattle.bridge.specs.Links.{relinkedPort};

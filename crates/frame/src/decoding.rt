@@ -1,6 +1,5 @@
 // Reading: a frame's bytes to its fields, or a refusal.
 ghost use mathlib.Core.Path.{_≡_};
-ghost use lib.ListN.{length};
 ghost use Rattle.numbers.specs.Table.{Held};
 ghost use Rattle.frame.specs.Frame.{widths, macOf, precedenceIn, fieldsOf};
 ghost use Rattle.frame.specs.Read.{constantsNo, readOf};

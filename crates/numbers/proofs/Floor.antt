@@ -1,5 +1,4 @@
 -- What floor division keeps: it is off by less than one, it bounds sizes, and it is all that a later rounding would change.
-use mathlib.Core.Path.{_≡_}
 use Prim.Native.Nat.{ℕ, suc, _+_, _*_, _/_, _<_, _≤_}
 use native.Mathlib.Nat.{div-add-mod, mod-lt, le-of-lt, div-lt-iff-lt-mul}
 use native.Mathlib.Omega.{arith}

@@ -1,15 +1,13 @@
 -- Signed machine numbers: what the proof of a function on i64 asks of them.
 use mathlib.Core.Path.{_≡_, refl, sym, ap, _∙_, subst}
-use mathlib.Core.Bool.{Bool, true, false, true≢false, false≢true}
-use Prim.Native.Nat.{ℕ, zero, suc, _+_, _-_, _*_, _/_, _^_, _<_, _≤_}
-use native.Mathlib.Nat.{div-le-self, lt-of-le-of-lt}
+use mathlib.Core.Bool.{true, false, true≢false}
+use Prim.Native.Nat.{ℕ, zero, suc, _+_, _*_, _^_, _<_}
 use native.Mathlib.Omega.{arith}
-use borrow.Author.Tests.{le-ltb, lt-ltb}
-use lib.IntN.{ℤ, pos, negsuc, natAbs, negℤ, subℕ, _+ℤ_, _-ℤ_, _*ℤ_}
-use lib.Signed.{mag, ltZ, nonNeg, shrZ}
-use lib.Dec.{T}
+use borrow.Author.Tests.{le-ltb}
+use lib.IntN.{ℤ, pos, negsuc, natAbs, negℤ, _+ℤ_, _-ℤ_, _*ℤ_}
+use lib.Signed.{mag, ltZ, shrZ}
 use mir.Syntax.{w64}
-use mir.Val.{SFits, Fits, toZ, ofZ}
+use mir.Val.{SFits, toZ, ofZ}
 use mir.ValLaws.{toZ-ofZ}
 use Rattle.numbers.specs.Whole.{floorDiv}
 use Rattle.numbers.proofs.Ring.{natAbs-*, natAbs-+, natAbs-neg, mag-le, minus-is, sub-lt, same, of-pos}

@@ -1,6 +1,6 @@
 -- Laws of the records: one for each case of a definition, and that every step keeps a record lawful.
 use mathlib.Core.Path.{_≡_, refl, sym, ap, _∙_, subst}
-use mathlib.Core.Bool.{Bool, true, false, cond}
+use mathlib.Core.Bool.{Bool, true, false}
 use mathlib.Core.List.{List}
 use Prim.Native.Nat.{ℕ, _+_, _*_, _<_, _≤_}
 use native.Mathlib.Omega.{arith}
@@ -10,9 +10,9 @@ use lib.ListN.{length}
 use Rattle.numbers.specs.Table.{Held}
 use Rattle.numbers.proofs.Places.{Bytes}
 use Rattle.numbers.proofs.Table.{held-at, held-parted}
-use Rattle.times.specs.Times.{circle, sinceOf, InRange, earlierBy, nextCount}
+use Rattle.times.specs.Times.{circle, sinceOf, InRange, nextCount}
 use Rattle.times.specs.Keep.{LawfulSamples, keptOf}
-use Rattle.times.specs.Hop.{lastHop, hopOf}
+use Rattle.times.specs.Hop.{lastHop}
 use Rattle.times.specs.Delay.{linkDelayOf}
 use Rattle.times.specs.Rate.{neighbourRateOf}
 use Rattle.times.proofs.KeepLaws.{kept-lawful}
@@ -42,7 +42,7 @@ use Rattle.frame.specs.declared.Mac.{Mac}
 use Rattle.port.specs.Record.{silenced, agedBy, agedPort, emptyPort, usedPort}
 use Rattle.port.specs.Lawful.{LawfulLast, LawfulStamps, LawfulPort, LawfulClock, FieldsInRange}
 use Rattle.port.specs.Own.{storedAs, ownSample, toldBy, toldOf}
-use Rattle.port.specs.Receive.{sampleOf, sameClock, notedPort, refusedBy, takenPort, delayedBy, followedBy, countedBy, receivedOf}
+use Rattle.port.specs.Receive.{sampleOf, sameClock, notedPort, refusedBy, delayedBy, followedBy, countedBy, receivedOf}
 use Rattle.port.specs.Choose.{rankOf}
 use Rattle.port.specs.Send.{echoTx, echoRx, frameOf, sendingBy, sendingOf, sendingNo}
 use Rattle.port.specs.declared.Choice.{Choice}

@@ -1,5 +1,5 @@
 -- What holds of every record that a call hands back: times are in range, and samples are such as step 4 keeps.
-use Prim.Native.Nat.{ℕ, _<_}
+use Prim.Native.Nat.{_<_}
 use Rattle.times.specs.Times.{circle, InRange}
 use Rattle.times.specs.Keep.{LawfulSamples}
 use Rattle.times.specs.declared.Stamps.{Stamps}

@@ -1,6 +1,6 @@
 -- Receive, on one record: steps 1 to 5 for a frame that was read.
 use Prim.Native.Nat.{ℕ}
-use mathlib.Core.Bool.{Bool, true, false, cond}
+use mathlib.Core.Bool.{Bool, false, cond}
 use lib.Dec.{eqb}
 use Rattle.times.specs.Times.{earlierBy, nextCount}
 use Rattle.times.specs.Rate.{neighbourRateOf}

@@ -2,9 +2,8 @@
 use Prim.Native.Nat.{_≤_}
 use lib.Seq.{length-take-le}
 use native.Mathlib.Nat.{add-sub-cancel-left}
-use lib.ListN.{length-take, length-drop, length}
+use lib.ListN.{length-drop, length}
 use native.Mathlib.Omega.{arith}
-use mathlib.Core.Path.{_≡_}
 use borrow.Author.Needs.{needs}
 use Rattle.numbers.proofs.digits.number_at.Statement.{statement}
 use Rattle.numbers.proofs.digits.number_at.Tie as tie

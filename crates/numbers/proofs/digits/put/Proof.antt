@@ -1,10 +1,10 @@
 -- What is left to put and what stands are the digits of v, byte by byte from the end.
-use mathlib.Core.Path.{_≡_, refl, sym, ap, _∙_}
-use mathlib.Core.List.{List, [], _∷_, _++_, append-nil}
-use Prim.Native.Nat.{ℕ, _≤_, _<_, _-_, _^_, _+_, _*_}
+use mathlib.Core.Path.{_≡_, refl, ap, _∙_}
+use mathlib.Core.List.{List, _++_, append-nil}
+use Prim.Native.Nat.{ℕ, _≤_}
 use borrow.Author.Needs.{needs}
 use native.Mathlib.Omega.{arith}
-use lib.ListN.{length, drop, getD, length-set}
+use lib.ListN.{length, drop, length-set}
 use lib.Seq.{drop-length}
 use Rattle.numbers.specs.Digits.{digits}
 use Rattle.numbers.proofs.Places.{put-step}

@@ -1,10 +1,8 @@
 -- A part of the output is lent to `put`; the rest stays.
-use mathlib.Core.Path.{_≡_, ap, _∙_}
-use mathlib.Core.List.{List, _++_}
-use Prim.Native.Nat.{ℕ, _≤_}
+use Prim.Native.Nat.{_≤_}
 use native.Mathlib.Omega.{arith}
 use native.Mathlib.Nat.{add-sub-cancel-left}
-use lib.ListN.{length, take, drop, length-drop}
+use lib.ListN.{length, drop, length-drop}
 use lib.Seq.{length-take-le, drop-drop}
 use borrow.Author.Needs.{needs}
 use Rattle.numbers.proofs.digits.put_at.Statement.{statement}

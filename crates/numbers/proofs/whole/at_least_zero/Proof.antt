@@ -1,5 +1,5 @@
 -- The greater of 0 and z, by the sign of z.
-use mathlib.Core.Path.{_≡_, sym, ap, _∙_}
+use mathlib.Core.Path.{sym, ap, _∙_}
 use native.Mathlib.Omega.{arith}
 use Rattle.numbers.specs.Whole.{atLeastZero}
 use Rattle.numbers.proofs.Machine.{back, taken-neg, left-pos}

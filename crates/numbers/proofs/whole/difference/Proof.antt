@@ -1,8 +1,7 @@
 -- The difference of two naturals below 2^63 fits a signed word.
 use borrow.Author.Needs.{needs}
-use mathlib.Core.Path.{_≡_, ap, _∙_}
-use lib.IntN.{ℤ, pos, _-ℤ_}
-use Rattle.numbers.proofs.Machine.{back, backN, sfits, minus-fits}
+use lib.IntN.{pos, _-ℤ_}
+use Rattle.numbers.proofs.Machine.{back, backN, minus-fits}
 use Rattle.numbers.proofs.whole.difference.Statement.{statement}
 use Rattle.numbers.proofs.whole.difference.Tie as tie
 
