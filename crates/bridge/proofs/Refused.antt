@@ -7,7 +7,6 @@ use native.Mathlib.Omega.{arith}
 use lib.Dec.{eqb, leb, ltb}
 use lib.ListN.{length}
 use Rattle.times.specs.Times.{circle, second}
-use Rattle.frame.specs.Frame.{frameLength}
 use Rattle.frame.specs.Read.{unless, readOf}
 use Rattle.frame.specs.declared.Fields.{Fields}
 use Rattle.frame.specs.declared.Mac.{Mac}
@@ -21,9 +20,10 @@ use Rattle.port.specs.declared.Setting.{Setting}
 use Rattle.port.specs.declared.Sending.{Sending}
 use Rattle.port.proofs.Choices.{if-when}
 use Rattle.port.proofs.PortLaws.{received-refused, told-refused, NoFrame, sending-refused}
+use Rattle.bridge.proofs.CheckLaws.{port-most, send-most}
 use Rattle.bridge.specs.Table.{portAt}
 use Rattle.bridge.specs.State.{withPort, withClock, answers}
-use Rattle.bridge.specs.Refusals.{hasLink, portNo, sendNo, ownNo, maskBeyond}
+use Rattle.bridge.specs.Refusals.{portNo, sendNo, ownNo, maskBeyond}
 use Rattle.bridge.specs.Setup.{setupFits, noBridge, setupOf}
 use Rattle.bridge.specs.Links.{linksOf}
 use Rattle.bridge.specs.Own.{ownClockOf}
@@ -59,30 +59,7 @@ pub record OwnKeeps (b : Bridge) (count at : ℕ) (d : Done) : Type 0 where
   pub early : (d .answer ≡ 0 → ⊥) → (d .answer ≡ 8 → ⊥) → d .next ≡ b
   pub late : d .answer ≡ 8 → d .next ≡ withClock b (record { last = Was count (record { 0 = at }); samples = b .clock .samples })
 
--- which numbers the tests over numbers alone give
-port-number : (n links port at : ℕ) → 7 ≤ portNo n links port at → ⊥
-unfolding portNo
-port-number n links port at = by (leb 1 port) (leb port n) (ltb at circle) (hasLink links port)
-  where
-    by : (a b c d : Bool) → 7 ≤ unless a 2 (unless b 2 (unless c 2 (unless d 3 0))) → ⊥
-    by false b c d e = omega arith
-    by true false c d e = omega arith
-    by true true false d e = omega arith
-    by true true true false e = omega arith
-    by true true true true e = omega arith
-
-send-number : (n links port t room : ℕ) → 5 ≤ sendNo n links port t room → ⊥
-unfolding sendNo
-send-number n links port t room = by (leb 1 port) (leb port n) (ltb t circle) (hasLink links port) (leb frameLength room)
-  where
-    by : (a b c d e : Bool) → 5 ≤ unless a 2 (unless b 2 (unless c 2 (unless d 3 (unless e 4 0)))) → ⊥
-    by false b c d e h = omega arith
-    by true false c d e h = omega arith
-    by true true false d e h = omega arith
-    by true true true false e h = omega arith
-    by true true true true false h = omega arith
-    by true true true true true h = omega arith
-
+-- the tests over numbers alone never give 8
 own-number : (capable : Bool) (seconds fraction at : ℕ) → ownNo capable seconds fraction at ≡ 8 → ⊥
 unfolding ownNo
 own-number capable seconds fraction at = by (ltb seconds second) (ltb fraction second) (ltb at circle) capable
@@ -114,11 +91,8 @@ unfolding receiveOf heardOf
 receive-keeps b port frame arrival =
     if-when (ReceiveKeeps b port frame arrival) (eqb (portNo (b .n) (b .links) port arrival) 0)
     (λ _. by (readOf frame) refl)
-    (λ _. record { early = λ _ _. refl; late = λ f e l. absurd (small l) })
+    (λ _. record { early = λ _ _. refl; late = λ f e l. absurd (omega (arith, port-most (b .n) (b .links) port arrival)) })
   where
-    small : 7 ≤ portNo (b .n) (b .links) port arrival → ⊥
-    small l = port-number (b .n) (b .links) port arrival l
-
     by : (r : Reading) → readOf frame ≡ r → ReceiveKeeps b port frame arrival (readBy b (port - 1) r (record { 0 = arrival }))
     by (Readings.Refused k) q = record { early = λ _ _. refl; late = λ f e l. let z : _≡_ {A = ℕ} 0 1 = cc in absurd (omega arith) }
     by (Readings.Frame g) q =
@@ -152,4 +126,4 @@ send-keeps b port t out = go (eqb (sendNo (b .n) (b .links) port t (length out))
         (cond r (answers (sendingNo (composedOf b (port - 1) (record { 0 = t }))) (usedOf b (port - 1))) (answers (sendNo (b .n) (b .links) port t (length out)) b))
         (cond r (filledBy (composedOf b (port - 1) (record { 0 = t })) out) out)
     go true = composed-keeps b port t out _ (sending-refused _ _ _ _ _ _)
-    go false = record { early = λ _ _. refl; late = λ l. absurd (send-number (b .n) (b .links) port t (length out) l); output = λ _. refl }
+    go false = record { early = λ _ _. refl; late = λ l. absurd (omega (arith, send-most (b .n) (b .links) port t (length out))); output = λ _. refl }

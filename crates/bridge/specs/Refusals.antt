@@ -14,22 +14,21 @@ bit m i = m / 2 ^ i % 2
 abbrev pub hasLink : ℕ → ℕ → Bool
 hasLink links port = eqb (bit links (port - 1)) 1
 
--- 2 for a port or a local time out of range, 3 for a port with no link, or 0
-unfoldable pub portNo : ℕ → ℕ → ℕ → ℕ → ℕ
-portNo n links port at =
+-- 2 for a port or a local time out of range, 3 for a port with no link, or the rest
+abbrev pub onPort : ℕ → ℕ → ℕ → ℕ → ℕ → ℕ
+onPort n links port at rest =
     unless (leb 1 port) 2
     (unless (leb port n) 2
     (unless (ltb at circle) 2
-    (unless (hasLink links port) 3 0)))
+    (unless (hasLink links port) 3 rest)))
 
--- the same, and 4 for an output that is too short
+-- a call on a port at a local time
+unfoldable pub portNo : ℕ → ℕ → ℕ → ℕ → ℕ
+portNo n links port at = onPort n links port at 0
+
+-- a send: the same, and 4 for an output that is too short
 unfoldable pub sendNo : ℕ → ℕ → ℕ → ℕ → ℕ → ℕ
-sendNo n links port t room =
-    unless (leb 1 port) 2
-    (unless (leb port n) 2
-    (unless (ltb t circle) 2
-    (unless (hasLink links port) 3
-    (unless (leb frameLength room) 4 0))))
+sendNo n links port t room = onPort n links port t (unless (leb frameLength room) 4 0)
 
 -- own clock: 2 for a time out of range, 10 on a station that is not capable, or 0
 unfoldable pub ownNo : Bool → ℕ → ℕ → ℕ → ℕ

@@ -36,7 +36,7 @@ stopped true k n h = absurd (true≢false h)
 stopped false k n h = refl
 
 -- where no refusal is given, the test held and the rest gave none
-none : (b : Bool) (k n : ℕ) → unless b (suc k) n ≡ 0 → (b ≡ true) × (n ≡ 0)
+pub none : (b : Bool) (k n : ℕ) → unless b (suc k) n ≡ 0 → (b ≡ true) × (n ≡ 0)
 none true k n e = (refl, e)
 none false k n e = absurd (omega arith)
 

@@ -1,13 +1,15 @@
 -- Laws of the records: one for each case of a definition, and that every step keeps a record lawful.
 use mathlib.Core.Path.{_≡_, refl, sym, ap, _∙_, subst}
-use mathlib.Core.Bool.{Bool, true, false}
+use mathlib.Core.Bool.{true, false}
 use mathlib.Core.List.{List}
-use Prim.Native.Nat.{ℕ, _+_, _*_, _<_, _≤_}
+use Prim.Native.Nat.{ℕ, _<_, _≤_}
+use native.Mathlib.Nat.{le-antisymm}
 use native.Mathlib.Omega.{arith}
 use borrow.Author.Tests.{lt-ltb, le-ltb, ltb-true, ltb-false, eq-eqb, ne-eqb}
 use lib.Dec.{ltb, eqb}
 use lib.ListN.{length}
 use Rattle.numbers.specs.Table.{Held}
+use Rattle.numbers.proofs.Pairs.{first-less, first-more, first-same}
 use Rattle.numbers.proofs.Places.{Bytes}
 use Rattle.numbers.proofs.Table.{held-at, held-parted}
 use Rattle.times.specs.Times.{circle, sinceOf, InRange, nextCount}
@@ -200,22 +202,15 @@ told-refused count grand at clock = go (clock .last)
 module _ (p q : Precedence) (h k i j : ℕ) where
   pub rank-less : i < 256 → ltb (keyOf p h) (keyOf q k) ≡ true → true ≡ ltb (rankOf p h i) (rankOf q k j)
   unfolding rankOf
-  rank-less l e = let o : keyOf p h < keyOf q k = ltb-true _ _ e in sym (lt-ltb (keyOf p h * 256 + i) (keyOf q k * 256 + j) (omega arith))
+  rank-less l e = first-less 256 (keyOf p h) (keyOf q k) i j (ltb-true _ _ e) l
 
   pub rank-more : j < 256 → ltb (keyOf q k) (keyOf p h) ≡ true → false ≡ ltb (rankOf p h i) (rankOf q k j)
   unfolding rankOf
-  rank-more l e = let o : keyOf q k < keyOf p h = ltb-true _ _ e in sym (le-ltb (keyOf p h * 256 + i) (keyOf q k * 256 + j) (omega arith))
+  rank-more l e = first-more 256 (keyOf p h) (keyOf q k) i j (ltb-true _ _ e) l
 
   pub rank-tie : ltb (keyOf p h) (keyOf q k) ≡ false → ltb (keyOf q k) (keyOf p h) ≡ false → ltb i j ≡ ltb (rankOf p h i) (rankOf q k j)
   unfolding rankOf
-  rank-tie e g =
-      let o : keyOf q k ≤ keyOf p h = ltb-false _ _ e in
-      let r : keyOf p h ≤ keyOf q k = ltb-false _ _ g in
-      go (ltb i j) refl o r
-    where
-      go : (b : Bool) → ltb i j ≡ b → keyOf q k ≤ keyOf p h → keyOf p h ≤ keyOf q k → ltb i j ≡ ltb (keyOf p h * 256 + i) (keyOf q k * 256 + j)
-      go true e o r = let l : i < j = ltb-true _ _ e in e ∙ sym (lt-ltb (keyOf p h * 256 + i) (keyOf q k * 256 + j) (omega arith))
-      go false e o r = let l : j ≤ i = ltb-false _ _ e in e ∙ sym (le-ltb (keyOf p h * 256 + i) (keyOf q k * 256 + j) (omega arith))
+  rank-tie e g = first-same 256 (keyOf p h) (keyOf q k) i j (le-antisymm (ltb-false _ _ g) (ltb-false _ _ e))
 
 -- ---- sending
 
