@@ -1,0 +1,112 @@
+-- Laws of digits: the value in each range of characters, and one character more for each loop.
+use mathlib.Core.Path.{_≡_, refl, sym, ap, _∙_}
+use mathlib.Core.Bool.{Bool, true, false, cond}
+use Prim.Native.Nat.{ℕ, zero, suc, _+_, _*_, _-_, _%_, _^_, _<_, _≤_}
+use mathlib.Core.List.{List, [], _∷_, _++_, append-nil}
+use native.Mathlib.Numerals.{add-one}
+use native.Mathlib.Nat.{pow-suc, pow-le-pow-right, lt-of-lt-of-le}
+use native.Mathlib.Omega.{arith}
+use lib.Arith.{digits-lt}
+use lib.Dec.{lit<}
+use lib.ListN.{length, take, drop, getD, set}
+use lib.Seq.{drop-cons, take-suc, set-at, length-take-le, append-snoc, take-length, drop-length}
+use borrow.Author.Tests.{le-leb, lt-leb}
+use Rattle.hexline.specs.Digit.{noDigit, within, valueOf, isDigit, allDigits, worth, byteOf, pairs}
+
+-- ---- the value of a character
+
+inside : (a b c : ℕ) → a ≤ c → c ≤ b → within a b c ≡ true
+inside a b c h k = rw (le-leb a c h) (le-leb c b k)
+
+under : (a b c : ℕ) → c < a → within a b c ≡ false
+under a b c h = rw (lt-leb a c h)
+
+over : (a b c : ℕ) → a ≤ c → b < c → within a b c ≡ false
+over a b c h k = rw (le-leb a c h) (lt-leb c b k)
+
+pub value-low : (c : ℕ) → c < 48 → valueOf c ≡ noDigit
+unfolding valueOf
+value-low c h = rw (under 48 57 c h, under 65 70 c (omega arith), under 97 102 c (omega arith))
+
+pub value-decimal : (c : ℕ) → 48 ≤ c → c ≤ 57 → valueOf c ≡ c - 48
+unfolding valueOf
+value-decimal c h k = rw (inside 48 57 c h k)
+
+pub value-middle : (c : ℕ) → 57 < c → c < 65 → valueOf c ≡ noDigit
+unfolding valueOf
+value-middle c h k = rw (over 48 57 c (omega arith) h, under 65 70 c k, under 97 102 c (omega arith))
+
+pub value-capital : (c : ℕ) → 65 ≤ c → c ≤ 70 → valueOf c ≡ c - 55
+unfolding valueOf
+value-capital c h k = rw (over 48 57 c (omega arith) (omega arith), inside 65 70 c h k)
+
+pub value-gap : (c : ℕ) → 70 < c → c < 97 → valueOf c ≡ noDigit
+unfolding valueOf
+value-gap c h k = rw (over 48 57 c (omega arith) (omega arith), over 65 70 c (omega arith) h, under 97 102 c k)
+
+pub value-small : (c : ℕ) → 97 ≤ c → c ≤ 102 → valueOf c ≡ c - 87
+unfolding valueOf
+value-small c h k = rw (over 48 57 c (omega arith) (omega arith), over 65 70 c (omega arith) (omega arith), inside 97 102 c h k)
+
+pub value-high : (c : ℕ) → 102 < c → valueOf c ≡ noDigit
+unfolding valueOf
+value-high c h = rw (over 48 57 c (omega arith) (omega arith), over 65 70 c (omega arith) (omega arith), over 97 102 c (omega arith) h)
+
+-- ---- the loops
+
+-- one character more
+pub all-next : (s : List ℕ) (i : ℕ) {b : Bool} → i < length s → isDigit (getD s i 0) ≡ b → allDigits (drop i s) ≡ cond b (allDigits (drop (i + 1) s)) false
+unfolding allDigits
+all-next s i h e = ap allDigits (drop-cons s i 0 h) ∙ rw add-one (ap (λ (t : Bool). cond t (allDigits (drop (suc i) s)) false) e)
+
+pub all-end : allDigits [] ≡ true
+unfolding allDigits
+all-end = refl
+
+-- room for one digit more, and for 16
+pub room : (i v d : ℕ) → v < 16 ^ i → d < 16 → v * 16 + d < 16 ^ (i + 1)
+room i v d hv hd = rw (add-one, pow-suc) (digits-lt hv hd)
+
+pub room16 : (i : ℕ) {v : ℕ} → v < 16 ^ i → i ≤ 16 → v < 2 ^ 64
+room16 i hv hi = lt-of-lt-of-le hv (pow-le-pow-right (lit< tt) hi)
+
+pub worth-next : (s : List ℕ) (i v : ℕ) → i < length s → worth (v * 16 + valueOf (getD s i 0) % 16) (drop (i + 1) s) ≡ worth v (drop i s)
+unfolding worth
+worth-next s i v h = rw (add-one, drop-cons s i 0)
+
+pub worth-end : (v : ℕ) → worth v [] ≡ v
+unfolding worth
+worth-end v = refl
+
+pub pairs-next : (s : List ℕ) (j : ℕ) → j * 2 + 1 < length s → pairs (drop (j * 2) s) ≡ byteOf (getD s (j * 2) 0) (getD s (j * 2 + 1) 0) ∷ pairs (drop (suc j * 2) s)
+unfolding pairs
+pairs-next s j h =
+    let l : j * 2 < length s = omega arith in
+    let e : suc (suc (j * 2)) ≡ suc j * 2 = omega arith in
+    let m : suc (j * 2) < length s = omega arith in
+    ap pairs (drop-cons s (j * 2) 0 l ∙ ap (λ (t : List ℕ). getD s (j * 2) 0 ∷ t) (drop-cons s (suc (j * 2)) 0 m)) ∙ rw (add-one, e) refl
+
+stored : (out t : List ℕ) (j b : ℕ) → j < length out → set (take (suc j) out ++ t) j b ≡ take j out ++ (b ∷ t)
+stored out t j b h =
+    rw (take-suc out j 0, append-snoc (take j out) (getD out j 0) t)
+    (set-at (take j out) (getD out j 0) t b j (length-take-le j out (omega arith)))
+
+pub pairs-step : (s out t : List ℕ) (i b : ℕ) → 0 < i → i ≤ length out → length s ≡ length out * 2
+    → b ≡ byteOf (getD s ((i - 1) * 2) 0) (getD s ((i - 1) * 2 + 1) 0) → t ≡ take i out ++ pairs (drop (i * 2) s)
+    → set t (i - 1) b ≡ take (i - 1) out ++ pairs (drop ((i - 1) * 2) s)
+pairs-step s out t zero b p h l eb et = absurd (omega arith)
+pairs-step s out t (suc j) b p h l eb et =
+    let g : j < length out = omega arith in
+    let m : j * 2 + 1 < length s = omega arith in
+    let z : suc j - 1 ≡ j = omega arith in
+    rw (z, pairs-next s j m, et)
+    (stored out (pairs (drop (suc j * 2) s)) j b g ∙ ap (λ (x : ℕ). take j out ++ (x ∷ pairs (drop (suc j * 2) s))) (rw z at eb))
+
+pub pairs-start : (s out : List ℕ) → length s ≡ length out * 2 → out ≡ take (length out) out ++ pairs (drop (length out * 2) s)
+unfolding pairs
+pairs-start s out h =
+    sym
+    (ap (λ (l : List ℕ). l ++ pairs (drop (length out * 2) s)) (take-length out)
+    ∙ ap (λ (n : ℕ). out ++ pairs (drop n s)) (sym h)
+    ∙ ap (λ (l : List ℕ). out ++ pairs l) (drop-length s)
+    ∙ append-nil out)

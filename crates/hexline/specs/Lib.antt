@@ -1,0 +1,3 @@
+pub mod Digit
+pub mod Line
+pub mod Print

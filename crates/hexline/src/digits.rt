@@ -1,0 +1,96 @@
+// Hexadecimal digits, of either case where they are read.
+ghost use mathlib.Core.Path.{_≡_};
+ghost use Prim.Native.Nat.{_*_, _%_, _<_, _≤_};
+ghost use lib.ListN.{length};
+ghost use Rattle.hexline.specs.Digit.{valueOf, allDigits, worth, byteOf, pairs};
+ghost use Rattle.hexline.specs.Print.{capitalOf};
+
+// What stands for the value of a character that is no digit.
+pub const NO_DIGIT: u8 = 16;
+
+// The value of a digit of either case, or NO_DIGIT.
+pub fn value(c: u8) -> u8
+    ensures { λ r. ⌜ r ≡ valueOf c ⌝ }
+{
+    if c < b'0' {
+        return NO_DIGIT;
+    }
+    if c <= b'9' {
+        return c - b'0';
+    }
+    if c < b'A' {
+        return NO_DIGIT;
+    }
+    if c <= b'F' {
+        return c - b'A' + 10;
+    }
+    if c < b'a' {
+        return NO_DIGIT;
+    }
+    if c <= b'f' {
+        return c - b'a' + 10;
+    }
+    NO_DIGIT
+}
+
+// The capital digit of a number below 16.
+pub fn capital(n: u8) -> u8
+    requires { ⌜ n < 16 ⌝ }
+    ensures { λ r. ⌜ r ≡ capitalOf n ⌝ }
+{
+    if n < 10 { b'0' + n } else { b'A' + (n - 10) }
+}
+
+// Whether every character is a digit.
+pub fn all(text: &[u8]) -> bool
+    ensures { λ r. ⌜ r ≡ allDigits (now (text .entry)) ⌝ }
+{
+    let mut i = 0;
+    while i < text.len() {
+        if value(text[i]) >= NO_DIGIT {
+            return false;
+        }
+        i += 1;
+    }
+    true
+}
+
+// The value of a digit as a wider number.
+fn wide(c: u8) -> u64
+    ensures { λ r. ⌜ r ≡ valueOf c % 16 ⌝ }
+{
+    (value(c) % 16) as u64
+}
+
+// The number that up to 16 digits make.
+pub fn number(text: &[u8]) -> u64
+    requires { ⌜ length (now text) ≤ 16 ⌝ }
+    ensures { λ r. ⌜ r ≡ worth 0 (now (text .entry)) ⌝ }
+{
+    let mut v: u64 = 0;
+    let mut i = 0;
+    while i < text.len() {
+        v = v * 16 + wide(text[i]);
+        i += 1;
+    }
+    v
+}
+
+// The byte that two digits make.
+pub fn byte(a: u8, b: u8) -> u8
+    ensures { λ r. ⌜ r ≡ byteOf a b ⌝ }
+{
+    value(a) % 16 * 16 + value(b) % 16
+}
+
+// Fills out with a byte for each two digits.
+pub fn bytes(text: &[u8], out: &mut [u8])
+    requires { ⌜ length (now text) ≡ length (now out) * 2 ⌝ }
+    ensures { λ _. ⌜ now (out .exit) ≡ pairs (now (text .entry)) ⌝ }
+{
+    let mut i = out.len();
+    while 0 < i {
+        i -= 1;
+        out[i] = byte(text[i * 2], text[i * 2 + 1]);
+    }
+}

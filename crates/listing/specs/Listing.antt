@@ -1,0 +1,55 @@
+-- What the listing prints for a line: the answer, and the clock that is chosen then.
+use mathlib.Core.Path.{_≡_}
+use mathlib.Core.Bool.{cond}
+use mathlib.Core.List.{List}
+use Prim.Native.Nat.{ℕ}
+use lib.Dec.{eqb}
+use lib.ListN.{length, getD, drop}
+use Rattle.numbers.specs.Digits.{numberAt}
+use Rattle.port.specs.declared.Choice.{Choice}
+use Rattle.port.specs.declared.Choice.the-variants.{Nothing, Clock}
+use Rattle.bridge.specs.State.{Lawful}
+use Rattle.bridge.specs.Chosen.{chosenOf}
+use Rattle.bridge.specs.Receive.{receiveOf}
+use Rattle.bridge.specs.declared.Bridge.{Bridge}
+use Rattle.bridge.specs.declared.Done.{Done}
+use Rattle.listing.specs.declared.Listed.{Listed}
+use Rattle.listing.specs.declared.Session.{Session}
+
+-- the bytes of a printed line
+abbrev pub printedBytes : ℕ
+printedBytes = 9
+
+-- the bytes of a line's digits
+abbrev pub heldBytes : ℕ
+heldBytes = 71
+
+-- the digits of a line, the refusal of one with others, and what is printed for a clock that there isn't
+abbrev pub lineDigits : ℕ
+lineDigits = 142
+
+abbrev pub badLine : ℕ
+badLine = 14
+
+abbrev pub nothing : ℕ
+nothing = 255
+
+-- an answer with the chosen clock's port and held hop
+abbrev pub toldBy : Choice → Bridge → ℕ → Listed
+toldBy Nothing b answer = record { next = b; answer = answer; port = nothing; hop = nothing }
+toldBy (Clock precedence hop port) b answer = record { next = b; answer = answer; port = port; hop = hop }
+
+unfoldable pub toldOf : Bridge → ℕ → Listed
+toldOf b answer = toldBy (chosenOf b) b answer
+
+-- a line's bytes: port, six of arrival, and the frame
+abbrev pub doneOf : Done → Listed
+doneOf done = toldOf (done .next) (done .answer)
+
+unfoldable pub listedOf : Bridge → List ℕ → ℕ → Listed
+listedOf b held seen = cond (eqb seen lineDigits) (doneOf (receiveOf b (getD held 0 0) (drop 7 held) (numberAt held 1 6))) (toldOf b badLine)
+
+-- what is kept from read to read: a lawful bridge, and room for a line's bytes
+pub record Ready (s : Session) : Type 0 where
+  pub lawful : Lawful (s .bridge)
+  pub room : length (s .held) ≡ heldBytes
