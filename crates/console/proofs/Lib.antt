@@ -1,0 +1,4 @@
+pub mod TextLaws
+pub mod ValueLaws
+pub mod SaidLaws
+pub mod AnswerLaws

@@ -1,0 +1,248 @@
+-- What a line does: the state after it, and the text printed for it.
+use Prim.Native.Nat.{ℕ}
+use mathlib.Core.Path.{_≡_}
+use mathlib.Core.Bool.{Bool, true, false, cond}
+use mathlib.Core.List.{List, []}
+use lib.ListN.{length, take, drop, replicate}
+use lib.Dec.{eqb}
+use lib.Ieee.{toBits, binary64}
+use Rattle.numbers.specs.Digits.{digits}
+use Rattle.times.specs.declared.Drift.{Drift}
+use Rattle.times.specs.declared.Drift.the-variants.{NoReading, PartsPerMillion, Refused as noClock}
+use Rattle.frame.specs.Read.{readOf}
+use Rattle.frame.specs.Write.{unwritten, writtenOf}
+use Rattle.frame.specs.Better.{standingOf, winnerOf, precedenceStart, precedenceBytes}
+use Rattle.frame.specs.declared.Reading.{Reading}
+use Rattle.frame.specs.declared.Reading.the-variants.{Frame, Refused as unread}
+use Rattle.frame.specs.declared.Winner.{Winner}
+use Rattle.frame.specs.declared.Winner.the-variants.{Neither, First, Second}
+use Rattle.port.specs.declared.Choice.{Choice}
+use Rattle.port.specs.declared.Choice.the-variants.{Nothing, Clock}
+use Rattle.port.specs.declared.Setting.{Setting}
+use Rattle.bridge.specs.State.{Lawful}
+use Rattle.bridge.specs.Setup.{setupOf}
+use Rattle.bridge.specs.Links.{linksOf}
+use Rattle.bridge.specs.Own.{ownClockOf}
+use Rattle.bridge.specs.Receive.{receiveOf}
+use Rattle.bridge.specs.Age.{ageOf}
+use Rattle.bridge.specs.Chosen.{chosenOf}
+use Rattle.bridge.specs.Send.{sendOf, sendBytes}
+use Rattle.bridge.specs.Drift.{driftAt}
+use Rattle.bridge.specs.declared.Bridge.{Bridge}
+use Rattle.bridge.specs.declared.Done.{Done}
+use Rattle.bridge.specs.declared.LinkCount.{LinkCount}
+use Rattle.bridge.specs.declared.LinkCount.the-variants.{Refused as beyond, Up}
+use Rattle.console.specs.Text.{countOf, fieldOf, letterOf}
+use Rattle.console.specs.Value.{mostBytes, numberIn, octetBy, lengthBy, numberOr, flagIn, givenFrom, settingsFrom, bytesIn, contentOf, addressIn, rankIn, partsOf}
+use Rattle.console.specs.Said.{line1, line2, lineBytes, lineWith, fieldsLine, Prints}
+use Rattle.console.specs.declared.Answered.{Answered}
+use Rattle.console.specs.declared.Number.{Number}
+use Rattle.console.specs.declared.Number.the-variants.{Is as number, Bad as noNumber}
+use Rattle.console.specs.declared.Octet.{Octet}
+use Rattle.console.specs.declared.Octet.the-variants.{Is as octet, Bad as noOctet}
+use Rattle.console.specs.declared.Size.{Size}
+use Rattle.console.specs.declared.Size.the-variants.{Is as size, Bad as noSize}
+use Rattle.console.specs.declared.Flag.{Flag}
+use Rattle.console.specs.declared.Flag.the-variants.{Is as flag, Bad as noFlag}
+use Rattle.console.specs.declared.Address.{Address}
+use Rattle.console.specs.declared.Address.the-variants.{Is as address, Bad as noAddress}
+use Rattle.console.specs.declared.Rank.{Rank}
+use Rattle.console.specs.declared.Rank.the-variants.{Is as rank, Bad as noRank}
+use Rattle.console.specs.declared.Parts.{Parts}
+use Rattle.console.specs.declared.Parts.the-variants.{Are as parts, Bad as noParts}
+
+pub record Answer : Type 0 where
+  pub next : Bridge
+  pub text : List ℕ
+
+abbrev pub says : Bridge → List ℕ → Answer
+says b t = record { next = b; text = t }
+
+-- a line that has not the form of one
+abbrev pub badText : List ℕ
+badText = line1 14
+
+abbrev pub badLine : Bridge → Answer
+badLine b = says b badText
+
+-- a call that answers a number
+abbrev pub doneSays : Done → Answer
+doneSays d = says (d .next) (line1 (d .answer))
+
+-- an output before a call: n of 128 bytes A5
+abbrev pub untouched : ℕ → List ℕ
+untouched n = take n (replicate mostBytes 0xA5)
+
+-- ---- the lines that change the state
+
+abbrev pub defaultTimeout : ℕ
+defaultTimeout = 549755813888
+
+abbrev pub defaultBack : ℕ
+defaultBack = 10995116278
+
+unfoldable pub setupBy : Bridge → Octet → Address → Rank → Flag → Number → Number → Bool → List Setting → Answer
+setupBy b noOctet m p f t k g ds = badLine b
+setupBy b (octet n) noAddress p f t k g ds = badLine b
+setupBy b (octet n) (address m) noRank f t k g ds = badLine b
+setupBy b (octet n) (address m) (rank p) noFlag t k g ds = badLine b
+setupBy b (octet n) (address m) (rank p) (flag c) noNumber k g ds = badLine b
+setupBy b (octet n) (address m) (rank p) (flag c) (number t) noNumber g ds = badLine b
+setupBy b (octet n) (address m) (rank p) (flag c) (number t) (number k) false ds = badLine b
+setupBy b (octet n) (address m) (rank p) (flag c) (number t) (number k) true ds = doneSays (setupOf n m p c t k ds)
+
+unfoldable pub setupLine : Bridge → List ℕ → Answer
+setupLine b s =
+    setupBy b (octetBy (numberIn (fieldOf s 1))) (addressIn (fieldOf s 2)) (rankIn (fieldOf s 3)) (flagIn (fieldOf s 4))
+    (numberOr defaultTimeout (fieldOf s 5)) (numberOr defaultBack (fieldOf s 6)) (givenFrom 8 7 s) (settingsFrom 8 7 s)
+
+unfoldable pub linkedSays : LinkCount → Bridge → Answer
+linkedSays beyond b = says b (line1 2)
+linkedSays (Up n) b = says b (line2 0 n)
+
+unfoldable pub linksBy : Bridge → Octet → Answer
+linksBy b noOctet = badLine b
+linksBy b (octet mask) = linkedSays (linksOf b mask .answer) (linksOf b mask .next)
+
+unfoldable pub linksLine : Bridge → List ℕ → Answer
+linksLine b s = linksBy b (octetBy (numberIn (fieldOf s 1)))
+
+unfoldable pub ownBy : Bridge → Octet → Number → Number → Number → Answer
+ownBy b noOctet s f t = badLine b
+ownBy b (octet c) noNumber f t = badLine b
+ownBy b (octet c) (number s) noNumber t = badLine b
+ownBy b (octet c) (number s) (number f) noNumber = badLine b
+ownBy b (octet c) (number s) (number f) (number t) = doneSays (ownClockOf b c s f t)
+
+unfoldable pub ownLine : Bridge → List ℕ → Answer
+ownLine b s = ownBy b (octetBy (numberIn (fieldOf s 1))) (numberIn (fieldOf s 2)) (numberIn (fieldOf s 3)) (numberIn (fieldOf s 4))
+
+unfoldable pub receiveBy : Bridge → Octet → Number → Size → List ℕ → Answer
+receiveBy b noOctet a n frame = badLine b
+receiveBy b (octet p) noNumber n frame = badLine b
+receiveBy b (octet p) (number a) noSize frame = badLine b
+receiveBy b (octet p) (number a) (size n) frame = doneSays (receiveOf b p frame a)
+
+unfoldable pub receiveLine : Bridge → List ℕ → Answer
+receiveLine b s = receiveBy b (octetBy (numberIn (fieldOf s 1))) (numberIn (fieldOf s 2)) (bytesIn (fieldOf s 3)) (contentOf (fieldOf s 3))
+
+unfoldable pub ageBy : Bridge → Number → Answer
+ageBy b noNumber = badLine b
+ageBy b (number t) = doneSays (ageOf b t)
+
+unfoldable pub ageLine : Bridge → List ℕ → Answer
+ageLine b s = ageBy b (numberIn (fieldOf s 1))
+
+abbrev pub sentSays : Done → List ℕ → Answer
+sentSays d bytes = says (d .next) (lineWith (d .answer) bytes)
+
+unfoldable pub sendBy : Bridge → Octet → Number → Size → Answer
+sendBy b noOctet t n = badLine b
+sendBy b (octet p) noNumber n = badLine b
+sendBy b (octet p) (number t) noSize = badLine b
+sendBy b (octet p) (number t) (size n) = sentSays (sendOf b p t (length (untouched n))) (sendBytes b p t (untouched n))
+
+unfoldable pub sendLine : Bridge → List ℕ → Answer
+sendLine b s = sendBy b (octetBy (numberIn (fieldOf s 1))) (numberIn (fieldOf s 2)) (lengthBy (numberIn (fieldOf s 3)))
+
+-- ---- the lines that leave the state as it is
+
+abbrev pub chosenText : Choice → List ℕ
+chosenText Nothing = line2 255 255
+chosenText (Clock p hop k) = line2 k hop
+
+abbrev pub driftText : Drift → List ℕ
+driftText noClock = line1 2
+driftText NoReading = line1 0
+driftText (PartsPerMillion x) = lineWith 0 (digits 8 (toBits binary64 x))
+
+unfoldable pub driftBy : Bridge → Octet → List ℕ
+driftBy b noOctet = badText
+driftBy b (octet p) = driftText (driftAt b p)
+
+unfoldable pub driftLine : Bridge → List ℕ → List ℕ
+driftLine b s = driftBy b (octetBy (numberIn (fieldOf s 1)))
+
+abbrev pub readText : Reading → List ℕ
+readText (unread k) = line1 k
+readText (Frame f) = fieldsLine f
+
+unfoldable pub readBy : Size → List ℕ → List ℕ
+readBy noSize frame = badText
+readBy (size n) frame = readText (readOf frame)
+
+unfoldable pub readLine : List ℕ → List ℕ
+readLine s = readBy (bytesIn (fieldOf s 1)) (contentOf (fieldOf s 1))
+
+unfoldable pub writeBy : Parts → Size → List ℕ
+writeBy noParts n = badText
+writeBy (parts f) noSize = badText
+writeBy (parts f) (size n) = lineWith (unwritten f (length (untouched n))) (writtenOf f (untouched n))
+
+unfoldable pub writeLine : List ℕ → List ℕ
+writeLine s = writeBy (partsOf s) (lengthBy (numberIn (fieldOf s 11)))
+
+-- the precedence bytes of the better of two frames
+abbrev pub pieceOf : Winner → List ℕ → List ℕ → List ℕ
+pieceOf Neither a b = []
+pieceOf First a b = take precedenceBytes (drop precedenceStart a)
+pieceOf Second a b = take precedenceBytes (drop precedenceStart b)
+
+unfoldable pub betterBytes : List ℕ → List ℕ → List ℕ
+betterBytes a b = pieceOf (winnerOf (standingOf a) (standingOf b)) a b
+
+unfoldable pub betterBy : Size → Size → List ℕ → List ℕ → List ℕ
+betterBy noSize m a b = badText
+betterBy (size n) noSize a b = badText
+betterBy (size n) (size m) a b = lineBytes (betterBytes a b)
+
+unfoldable pub betterLine : List ℕ → List ℕ
+betterLine s = betterBy (bytesIn (fieldOf s 1)) (bytesIn (fieldOf s 2)) (contentOf (fieldOf s 1)) (contentOf (fieldOf s 2))
+
+-- ---- a line
+
+-- how many fields a line with this letter has; 0 where no call has the letter
+unfoldable pub wantedOf : ℕ → ℕ
+wantedOf letter =
+    cond (eqb letter 83) 15
+    (cond (eqb letter 76) 2
+    (cond (eqb letter 79) 5
+    (cond (eqb letter 82) 4
+    (cond (eqb letter 65) 2
+    (cond (eqb letter 67) 1
+    (cond (eqb letter 84) 4
+    (cond (eqb letter 68) 2
+    (cond (eqb letter 70) 2
+    (cond (eqb letter 87) 12
+    (cond (eqb letter 66) 3 0))))))))))
+
+-- C, D, F, W, B
+unfoldable pub askedText : ℕ → Bridge → List ℕ → List ℕ
+askedText letter b s =
+    cond (eqb letter 67) (chosenText (chosenOf b))
+    (cond (eqb letter 68) (driftLine b s)
+    (cond (eqb letter 70) (readLine s)
+    (cond (eqb letter 87) (writeLine s)
+    (cond (eqb letter 66) (betterLine s) badText))))
+
+-- S, L, O, R, A, T, and those
+unfoldable pub callOf : ℕ → Bridge → List ℕ → Answer
+callOf letter b s =
+    cond (eqb letter 83) (setupLine b s)
+    (cond (eqb letter 76) (linksLine b s)
+    (cond (eqb letter 79) (ownLine b s)
+    (cond (eqb letter 82) (receiveLine b s)
+    (cond (eqb letter 65) (ageLine b s)
+    (cond (eqb letter 84) (sendLine b s)
+    (says b (askedText letter b s)))))))
+
+-- the line whole: its letter wants as many fields as there are
+unfoldable pub answerOf : Bridge → List ℕ → Answer
+answerOf b s = cond (eqb (countOf s) (wantedOf (letterOf s))) (callOf (letterOf s) b s) (badLine b)
+
+-- ---- what a call promises
+
+pub record Says (want : Answer) (got : Answered) (was left : List ℕ) : Type 0 where
+  pub state : got .next ≡ want .next
+  pub prints : Prints (want .text) (got .len) was left
+  pub lawful : Lawful (got .next)
