@@ -1,4 +1,10 @@
 // The replay program: one call of the library for each line of text, and one line printed for each.
+ghost use mathlib.Core.Path.{_≡_};
+ghost use Prim.Native.Nat.{_+_, _≤_};
+ghost use lib.ListN.{length};
+ghost use Rattle.bridge.specs.State.{Lawful};
+ghost use Rattle.console.specs.Said.{longest};
+ghost use Rattle.replay.specs.Replay.{keptBytes, Stopped, Ready};
 use bridge::Bridge;
 use frame::Mac;
 use frame::Precedence;
@@ -25,7 +31,9 @@ struct Stop {
 }
 
 // The bridge before the first line: what a refused Setup hands back.
-fn start() -> Bridge {
+fn start() -> Bridge
+    ensures { λ r. ⌜ Lawful r ⌝ }
+{
     let nobody = Mac(0, 0, 0, 0, 0, 0);
     let least = Precedence {
         priority1: 0,
@@ -39,7 +47,11 @@ fn start() -> Bridge {
 }
 
 // Keeps the bytes from `from` on, up to a newline or the end.
-fn kept(text: &mut [u8; 516], len: usize, bytes: &[u8], from: usize) -> Stop {
+fn kept(text: &mut [u8; 516], len: usize, bytes: &[u8], from: usize) -> Stop
+    requires { ⌜ (len ≤ keptBytes) × (from ≤ length (now bytes)) ⌝ }
+    ensures { λ r. ⌜ Stopped from (length (now (bytes .entry))) r ⌝ }
+    ensures { λ _. ⌜ length (now (text .exit)) ≡ length (now (text .entry)) ⌝ }
+{
     let mut n = len;
     let mut i = from;
     while i < bytes.len() {
@@ -57,7 +69,10 @@ fn kept(text: &mut [u8; 516], len: usize, bytes: &[u8], from: usize) -> Stop {
 }
 
 // Room for one more line in the output: where it starts, once what was full is written.
-fn room(out: &[u8], filled: usize) -> usize {
+fn room(out: &[u8], filled: usize) -> usize
+    requires { ⌜ (filled ≤ length (now out)) × (longest ≤ length (now out)) ⌝ }
+    ensures { λ r. ⌜ r + longest ≤ length (now (out .entry)) ⌝ }
+{
     if filled <= out.len() - console::LONGEST_ANSWER {
         return filled;
     }
@@ -66,7 +81,11 @@ fn room(out: &[u8], filled: usize) -> usize {
 }
 
 // Answers every line that ends in these bytes and writes the answers; what is left is the start of a line.
-fn fed(s: Session, bytes: &[u8], out: &mut [u8]) -> Session {
+fn fed(s: Session, bytes: &[u8], out: &mut [u8]) -> Session
+    requires { ⌜ Ready s ⌝ }
+    requires { ⌜ longest ≤ length (now out) ⌝ }
+    ensures { λ r. ⌜ Ready r ⌝ }
+{
     let mut b = s.bridge;
     let mut text = s.text;
     let mut filled: usize = 0;
