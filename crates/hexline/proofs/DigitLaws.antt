@@ -4,7 +4,8 @@ use mathlib.Core.Bool.{Bool, true, false, cond}
 use Prim.Native.Nat.{ℕ, zero, suc, _+_, _*_, _-_, _%_, _^_, _<_, _≤_}
 use mathlib.Core.List.{List, [], _∷_, _++_, append-nil}
 use native.Mathlib.Numerals.{add-one}
-use native.Mathlib.Nat.{pow-suc, pow-le-pow-right, lt-of-lt-of-le}
+use native.Mathlib.Nat.{pow-suc, pow-le-pow-right, lt-of-lt-of-le, lt-of-not-le}
+use native.Mathlib.Decide.{decLe}
 use native.Mathlib.Omega.{arith}
 use lib.Arith.{digits-lt}
 use lib.Dec.{lit<}
@@ -18,39 +19,29 @@ use Rattle.hexline.specs.Digit.{noDigit, within, valueOf, isDigit, allDi
 inside : (a b c : ℕ) → a ≤ c → c ≤ b → within a b c ≡ true
 inside a b c h k = rw (le-leb a c h) (le-leb c b k)
 
-under : (a b c : ℕ) → c < a → within a b c ≡ false
-under a b c h = rw (lt-leb a c h)
-
-over : (a b c : ℕ) → a ≤ c → b < c → within a b c ≡ false
-over a b c h k = rw (le-leb a c h) (lt-leb c b k)
-
-pub value-low : (c : ℕ) → c < 48 → valueOf c ≡ noDigit
-unfolding valueOf
-value-low c h = rw (under 48 57 c h, under 65 70 c (omega arith), under 97 102 c (omega arith))
+outside : (a b c : ℕ) → (a ≤ c → c ≤ b → ⊥) → within a b c ≡ false
+outside a b c f = go (decLe a c) (decLe c b)
+  where
+    go : Dec (a ≤ c) → Dec (c ≤ b) → within a b c ≡ false
+    go (no h) k = rw (lt-leb a c (lt-of-not-le h))
+    go (yes h) (no k) = rw (le-leb a c h) (lt-leb c b (lt-of-not-le k))
+    go (yes h) (yes k) = absurd (f h k)
 
 pub value-decimal : (c : ℕ) → 48 ≤ c → c ≤ 57 → valueOf c ≡ c - 48
 unfolding valueOf
 value-decimal c h k = rw (inside 48 57 c h k)
 
-pub value-middle : (c : ℕ) → 57 < c → c < 65 → valueOf c ≡ noDigit
-unfolding valueOf
-value-middle c h k = rw (over 48 57 c (omega arith) h, under 65 70 c k, under 97 102 c (omega arith))
-
 pub value-capital : (c : ℕ) → 65 ≤ c → c ≤ 70 → valueOf c ≡ c - 55
 unfolding valueOf
-value-capital c h k = rw (over 48 57 c (omega arith) (omega arith), inside 65 70 c h k)
-
-pub value-gap : (c : ℕ) → 70 < c → c < 97 → valueOf c ≡ noDigit
-unfolding valueOf
-value-gap c h k = rw (over 48 57 c (omega arith) (omega arith), over 65 70 c (omega arith) h, under 97 102 c k)
+value-capital c h k = rw (outside 48 57 c (λ l m. omega arith), inside 65 70 c h k)
 
 pub value-small : (c : ℕ) → 97 ≤ c → c ≤ 102 → valueOf c ≡ c - 87
 unfolding valueOf
-value-small c h k = rw (over 48 57 c (omega arith) (omega arith), over 65 70 c (omega arith) (omega arith), inside 97 102 c h k)
+value-small c h k = rw (outside 48 57 c (λ l m. omega arith), outside 65 70 c (λ l m. omega arith), inside 97 102 c h k)
 
-pub value-high : (c : ℕ) → 102 < c → valueOf c ≡ noDigit
+pub value-none : (c : ℕ) → (48 ≤ c → c ≤ 57 → ⊥) → (65 ≤ c → c ≤ 70 → ⊥) → (97 ≤ c → c ≤ 102 → ⊥) → valueOf c ≡ noDigit
 unfolding valueOf
-value-high c h = rw (over 48 57 c (omega arith) (omega arith), over 65 70 c (omega arith) (omega arith), over 97 102 c (omega arith) h)
+value-none c f g h = rw (outside 48 57 c f, outside 65 70 c g, outside 97 102 c h)
 
 -- ---- the loops
 

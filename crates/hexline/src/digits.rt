@@ -12,23 +12,17 @@ pub const NO_DIGIT: u8 = 16;
 pub fn value(c: u8) -> u8
     ensures { λ r. ⌜ r ≡ valueOf c ⌝ }
 {
-    if c < b'0' {
-        return NO_DIGIT;
+    let decimal = std::num::wrapping_sub_u8(c, b'0');
+    if decimal < 10 {
+        return decimal;
     }
-    if c <= b'9' {
-        return c - b'0';
+    let upper = std::num::wrapping_sub_u8(c, b'A');
+    if upper < 6 {
+        return upper + 10;
     }
-    if c < b'A' {
-        return NO_DIGIT;
-    }
-    if c <= b'F' {
-        return c - b'A' + 10;
-    }
-    if c < b'a' {
-        return NO_DIGIT;
-    }
-    if c <= b'f' {
-        return c - b'a' + 10;
+    let lower = std::num::wrapping_sub_u8(c, b'a');
+    if lower < 6 {
+        return lower + 10;
     }
     NO_DIGIT
 }
