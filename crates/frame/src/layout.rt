@@ -85,12 +85,13 @@ pub fn parts(frame: &[u8]) -> [u64; 24]
     ensures { λ r. ⌜ r ≡ parted widths 0 (now (frame .entry)) ⌝ }
     ensures { λ r. ⌜ Held widths r ⌝ }
 {
+    let table = WIDTHS;
     let mut values = [0u64; 24];
     let mut at: usize = FRAME_LENGTH;
     let mut k: usize = ROWS;
     while 0 < k {
         k -= 1;
-        let n = WIDTHS[k];
+        let n = table[k];
         at -= n;
         values[k] = digits::number_at(frame, at, n);
     }
@@ -102,11 +103,12 @@ pub fn fill(values: [u64; 24], out: &mut [u8])
     requires { ⌜ frameLength ≤ length (now out) ⌝ }
     ensures { λ _. ⌜ now (out .exit) ≡ joined widths values (drop frameLength (now (out .entry))) ⌝ }
 {
+    let table = WIDTHS;
     let mut at: usize = FRAME_LENGTH;
     let mut k: usize = ROWS;
     while 0 < k {
         k -= 1;
-        let n = WIDTHS[k];
+        let n = table[k];
         at -= n;
         digits::put_at(out, at, n, values[k]);
     }

@@ -12,12 +12,12 @@ use Rattle.frame.proofs.layout.fill.Statement.{statement}
 use Rattle.frame.proofs.layout.fill.Tie as tie
 
 abbrev Inv-loop : tie.InvT-loop
-Inv-loop out₀ values at₀ k₀ out at k =
+Inv-loop out₀ values table at₀ k₀ out at k =
     (length values ≡ 24) × (frameLength ≤ length out₀) × (length out ≡ length out₀) × (k ≤ 24) × (at + total (drop k widths) ≡ frameLength)
     × (out ≡ take at out₀ ++ joined (drop k widths) (drop k values) (drop frameLength out₀))
 
 abbrev μ-loop : tie.MeasureT-loop
-μ-loop out₀ values at₀ k₀ out at k = k
+μ-loop out₀ values table at₀ k₀ out at k = k
 
 loop-holds : tie.Need-loop-holds Inv-loop μ-loop
 unfolding joined

@@ -10,12 +10,12 @@ use Rattle.frame.proofs.layout.parts.Statement.{statement}
 use Rattle.frame.proofs.layout.parts.Tie as tie
 
 abbrev Inv-loop : tie.InvT-loop
-Inv-loop frame values₀ at₀ k₀ values at k =
+Inv-loop frame table values₀ at₀ k₀ values at k =
     (length values ≡ 24) × (k ≤ 24) × (at + total (drop k widths) ≡ frameLength)
     × (drop k values ≡ parted (drop k widths) at frame) × Held (drop k widths) (drop k values)
 
 abbrev μ-loop : tie.MeasureT-loop
-μ-loop frame values₀ at₀ k₀ values at k = k
+μ-loop frame table values₀ at₀ k₀ values at k = k
 
 loop-holds : tie.Need-loop-holds Inv-loop μ-loop
 unfolding parted
