@@ -1,4 +1,6 @@
 // The lines whose call leaves the state as it is.
+// Above each stands the line; its fields are numbered from the letter, which is 0.
+ghost use mathlib.Core.Path.{_≡_};
 ghost use mathlib.Core.Bool.{not};
 ghost use Prim.Native.Nat.{_≤_};
 ghost use lib.ListN.{length};

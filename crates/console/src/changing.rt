@@ -1,4 +1,5 @@
 // The lines whose call changes the state.
+// Above each stands the line; its fields are numbered from the letter, which is 0.
 ghost use Prim.Native.Nat.{_≤_};
 ghost use lib.ListN.{length};
 ghost use Rattle.bridge.specs.State.{Lawful};

@@ -16,8 +16,77 @@ const NEWLINE: u8 = b'\n';
 
 const NO_BYTES: u8 = b'-';
 
+// How many digits a byte has.
+const DIGITS: usize = 2;
+
 // The answer to a line that has not the form of one.
 const BAD_LINE: u8 = 14;
+
+// Where the first and the second thing of a line stand, and the lengths of lines of one byte and of two.
+const FIRST: usize = 0;
+
+const FIRST_END: usize = 2;
+
+const SECOND: usize = 3;
+
+const SECOND_END: usize = 5;
+
+const ONE_LENGTH: usize = 3;
+
+const TWO_LENGTH: usize = 6;
+
+// The columns of what is printed of a frame, and the bytes of its numbers.
+const ANSWER: usize = 0;
+
+const SA1: usize = 3;
+
+const SA2: usize = 5;
+
+const SA3: usize = 7;
+
+const SA4: usize = 9;
+
+const SA5: usize = 11;
+
+const SA6: usize = 13;
+
+const PRIORITY1: usize = 16;
+
+const SOURCE: usize = 18;
+
+const VARIANCE: usize = 20;
+
+const PRIORITY2: usize = 24;
+
+const CLOCK: usize = 26;
+
+const HOP: usize = 43;
+
+const COUNT: usize = 46;
+
+const SECONDS: usize = 49;
+
+const FRACTION: usize = 59;
+
+const LOCAL: usize = 70;
+
+const TX: usize = 83;
+
+const RX: usize = 96;
+
+const ERROR: usize = 109;
+
+const ONE_BYTE: usize = 1;
+
+const VARIANCE_BYTES: usize = 2;
+
+const ERROR_BYTES: usize = 4;
+
+const GRAND_BYTES: usize = 5;
+
+const LOCAL_BYTES: usize = 6;
+
+const CLOCK_BYTES: usize = 8;
 
 // Where the newline stands after a frame's fields, and how long that line is.
 const FIELDS_END: usize = 117;
@@ -29,9 +98,9 @@ pub fn one(out: &mut [u8], a: u8) -> usize
     requires { ⌜ longest ≤ length (now out) ⌝ }
     ensures { λ r. ⌜ Prints (line1 a) r (now (out .entry)) (now (out .exit)) ⌝ }
 {
-    printing::put_byte(out, 0, a);
-    out[2] = NEWLINE;
-    3
+    printing::put_byte(out, FIRST, a);
+    out[FIRST_END] = NEWLINE;
+    ONE_LENGTH
 }
 
 // Prints that a line has not the form of one.
@@ -47,11 +116,11 @@ pub fn two(out: &mut [u8], a: u8, b: u8) -> usize
     requires { ⌜ longest ≤ length (now out) ⌝ }
     ensures { λ r. ⌜ Prints (line2 a b) r (now (out .entry)) (now (out .exit)) ⌝ }
 {
-    printing::put_byte(out, 0, a);
-    out[2] = SPACE;
-    printing::put_byte(out, 3, b);
-    out[5] = NEWLINE;
-    6
+    printing::put_byte(out, FIRST, a);
+    out[FIRST_END] = SPACE;
+    printing::put_byte(out, SECOND, b);
+    out[SECOND_END] = NEWLINE;
+    TWO_LENGTH
 }
 
 // Prints bytes from `at` on, up to the line's end.
@@ -66,7 +135,7 @@ pub fn rest(out: &mut [u8], at: usize, bytes: &[u8]) -> usize
         return at + 2;
     }
     printing::put_at(bytes, out, at);
-    let end = at + bytes.len() * 2;
+    let end = at + bytes.len() * DIGITS;
     out[end] = NEWLINE;
     end + 1
 }
@@ -77,9 +146,9 @@ pub fn with_bytes(out: &mut [u8], a: u8, bytes: &[u8]) -> usize
     requires { ⌜ longest ≤ length (now out) ⌝ }
     ensures { λ r. ⌜ Prints (lineWith a (now (bytes .entry))) r (now (out .entry)) (now (out .exit)) ⌝ }
 {
-    printing::put_byte(out, 0, a);
-    out[2] = SPACE;
-    rest(out, 3, bytes)
+    printing::put_byte(out, FIRST, a);
+    out[FIRST_END] = SPACE;
+    rest(out, SECOND, bytes)
 }
 
 // Prints the n low bytes of a number at a column of a line.
@@ -97,12 +166,12 @@ pub fn address(line: &mut [u8], m: Mac)
     requires { ⌜ fieldsLength ≤ length (now line) ⌝ }
     ensures { λ _. ⌜ now (line .exit) ≡ macAt m (now (line .entry)) ⌝ }
 {
-    column(line, 3, 1, m.0 as u64);
-    column(line, 5, 1, m.1 as u64);
-    column(line, 7, 1, m.2 as u64);
-    column(line, 9, 1, m.3 as u64);
-    column(line, 11, 1, m.4 as u64);
-    column(line, 13, 1, m.5 as u64);
+    column(line, SA1, ONE_BYTE, m.0 as u64);
+    column(line, SA2, ONE_BYTE, m.1 as u64);
+    column(line, SA3, ONE_BYTE, m.2 as u64);
+    column(line, SA4, ONE_BYTE, m.3 as u64);
+    column(line, SA5, ONE_BYTE, m.4 as u64);
+    column(line, SA6, ONE_BYTE, m.5 as u64);
 }
 
 // Prints a precedence.
@@ -110,11 +179,11 @@ pub fn rank(line: &mut [u8], p: Precedence)
     requires { ⌜ fieldsLength ≤ length (now line) ⌝ }
     ensures { λ _. ⌜ now (line .exit) ≡ precedenceAt p (now (line .entry)) ⌝ }
 {
-    column(line, 16, 1, p.priority1 as u64);
-    column(line, 18, 1, p.source as u64);
-    column(line, 20, 2, p.variance as u64);
-    column(line, 24, 1, p.priority2 as u64);
-    column(line, 26, 8, p.clock);
+    column(line, PRIORITY1, ONE_BYTE, p.priority1 as u64);
+    column(line, SOURCE, ONE_BYTE, p.source as u64);
+    column(line, VARIANCE, VARIANCE_BYTES, p.variance as u64);
+    column(line, PRIORITY2, ONE_BYTE, p.priority2 as u64);
+    column(line, CLOCK, CLOCK_BYTES, p.clock);
 }
 
 // Prints the counts and times of a frame.
@@ -122,14 +191,14 @@ pub fn counts_and_times(line: &mut [u8], f: Fields)
     requires { ⌜ fieldsLength ≤ length (now line) ⌝ }
     ensures { λ _. ⌜ now (line .exit) ≡ restAt f (now (line .entry)) ⌝ }
 {
-    column(line, 43, 1, f.hop as u64);
-    column(line, 46, 1, f.count as u64);
-    column(line, 49, 5, f.grand.0);
-    column(line, 59, 5, f.grand.1);
-    column(line, 70, 6, f.local.0);
-    column(line, 83, 6, f.tx.0);
-    column(line, 96, 6, f.rx.0);
-    column(line, 109, 4, f.error.0 as u64);
+    column(line, HOP, ONE_BYTE, f.hop as u64);
+    column(line, COUNT, ONE_BYTE, f.count as u64);
+    column(line, SECONDS, GRAND_BYTES, f.grand.0);
+    column(line, FRACTION, GRAND_BYTES, f.grand.1);
+    column(line, LOCAL, LOCAL_BYTES, f.local.0);
+    column(line, TX, LOCAL_BYTES, f.tx.0);
+    column(line, RX, LOCAL_BYTES, f.rx.0);
+    column(line, ERROR, ERROR_BYTES, f.error.0 as u64);
 }
 
 // Copies a line to the output.
@@ -152,7 +221,7 @@ pub fn fields(out: &mut [u8], f: Fields) -> usize
     let mut line = [SPACE; 118];
     let sa = f.sa;
     let precedence = f.precedence;
-    column(&mut line, 0, 1, 0);
+    column(&mut line, ANSWER, ONE_BYTE, 0);
     address(&mut line, sa);
     rank(&mut line, precedence);
     counts_and_times(&mut line, f);

@@ -1,6 +1,6 @@
 // A field of a line as a number, as bytes, or as what a call takes.
 ghost use mathlib.Core.Path.{_≡_};
-ghost use Prim.Native.Nat.{_<_};
+ghost use Prim.Native.Nat.{_<_, _≤_};
 ghost use lib.ListN.{length};
 ghost use Rattle.console.specs.Text.{fieldOf};
 ghost use Rattle.console.specs.Value.{mostBytes, numberIn, octetBy, lengthBy, isMark, numberOr, flagIn, waitIn, isGiven, settingOf, givenFrom, settingsFrom, sizeIn, bytesIn, contentOf, filled, justBytes, addressIn, rankIn, errorIn, momentsAt, partsOf};
@@ -36,8 +36,31 @@ const DEFAULT: u8 = b'D';
 
 const MEASURED: u8 = b'M';
 
+// The marks of a station that has no clock of its own to give, and of one that has.
+const NOT_CAPABLE: u8 = b'0';
+
+const CAPABLE: u8 = b'1';
+
 // How many ports a setup has fields for.
 const PORTS: usize = 8;
+
+// The bytes of an address, of a precedence and of an errorTime.
+const ADDRESS_BYTES: usize = 6;
+
+const PRECEDENCE_BYTES: usize = 13;
+
+const ERROR_BYTES: usize = 4;
+
+// Where the parts of a precedence stand, and how many bytes they have.
+const VARIANCE: usize = 2;
+
+const VARIANCE_BYTES: usize = 2;
+
+const PRIORITY2: usize = 4;
+
+const CLOCK: usize = 5;
+
+const CLOCK_BYTES: usize = 8;
 
 // The first value beyond a byte.
 const BYTE_END: u64 = 256;
@@ -158,10 +181,10 @@ pub fn flag(text: &[u8], k: usize) -> Flag
     ensures { λ r. ⌜ r ≡ flagIn (fieldOf (now (text .entry)) k) ⌝ }
 {
     let field = cutting::field(text, k);
-    if is_mark(field, b'0') {
+    if is_mark(field, NOT_CAPABLE) {
         return Flag::Is(false);
     }
-    if is_mark(field, b'1') {
+    if is_mark(field, CAPABLE) {
         return Flag::Is(true);
     }
     Flag::Bad
@@ -259,7 +282,7 @@ pub fn address(text: &[u8], k: usize) -> Address
     ensures { λ r. ⌜ r ≡ addressIn (fieldOf (now (text .entry)) k) ⌝ }
 {
     let mut b = [0u8; 128];
-    if just(text, k, 6, &mut b) {
+    if just(text, k, ADDRESS_BYTES, &mut b) {
         return Address::Is(Mac(b[0], b[1], b[2], b[3], b[4], b[5]));
     }
     Address::Bad
@@ -270,13 +293,13 @@ pub fn rank(text: &[u8], k: usize) -> Rank
     ensures { λ r. ⌜ r ≡ rankIn (fieldOf (now (text .entry)) k) ⌝ }
 {
     let mut b = [0u8; 128];
-    if just(text, k, 13, &mut b) {
+    if just(text, k, PRECEDENCE_BYTES, &mut b) {
         return Rank::Is(Precedence {
             priority1: b[0],
             source: b[1],
-            variance: numbers::digits::number_at(&b, 2, 2) as u16,
-            priority2: b[4],
-            clock: numbers::digits::number_at(&b, 5, 8),
+            variance: numbers::digits::number_at(&b, VARIANCE, VARIANCE_BYTES) as u16,
+            priority2: b[PRIORITY2],
+            clock: numbers::digits::number_at(&b, CLOCK, CLOCK_BYTES),
         });
     }
     Rank::Bad
@@ -287,8 +310,8 @@ pub fn error(text: &[u8], k: usize) -> Error
     ensures { λ r. ⌜ r ≡ errorIn (fieldOf (now (text .entry)) k) ⌝ }
 {
     let mut b = [0u8; 128];
-    if just(text, k, 4, &mut b) {
-        return Error::Is(ErrorTime(numbers::digits::number_at(&b, 0, 4) as u32));
+    if just(text, k, ERROR_BYTES, &mut b) {
+        return Error::Is(ErrorTime(numbers::digits::number_at(&b, 0, ERROR_BYTES) as u32));
     }
     Error::Bad
 }

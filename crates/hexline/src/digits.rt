@@ -5,6 +5,19 @@ ghost use lib.ListN.{length};
 ghost use Rattle.hexline.specs.Digit.{valueOf, allDigits, worth, byteOf, pairs};
 ghost use Rattle.hexline.specs.Print.{capitalOf};
 
+// The base, and the first value that is a letter.
+pub const BASE: u8 = 16;
+
+const TEN: u8 = 10;
+
+const WIDE_BASE: u64 = 16;
+
+// How many digits are letters.
+const LETTERS: u8 = 6;
+
+// How many digits a byte has.
+pub const DIGITS: usize = 2;
+
 // What stands for the value of a character that is no digit.
 pub const NO_DIGIT: u8 = 16;
 
@@ -13,16 +26,16 @@ pub fn value(c: u8) -> u8
     ensures { λ r. ⌜ r ≡ valueOf c ⌝ }
 {
     let decimal = std::num::wrapping_sub_u8(c, b'0');
-    if decimal < 10 {
+    if decimal < TEN {
         return decimal;
     }
     let upper = std::num::wrapping_sub_u8(c, b'A');
-    if upper < 6 {
-        return upper + 10;
+    if upper < LETTERS {
+        return upper + TEN;
     }
     let lower = std::num::wrapping_sub_u8(c, b'a');
-    if lower < 6 {
-        return lower + 10;
+    if lower < LETTERS {
+        return lower + TEN;
     }
     NO_DIGIT
 }
@@ -32,7 +45,7 @@ pub fn capital(n: u8) -> u8
     requires { ⌜ n < 16 ⌝ }
     ensures { λ r. ⌜ r ≡ capitalOf n ⌝ }
 {
-    if n < 10 { b'0' + n } else { b'A' + (n - 10) }
+    if n < TEN { b'0' + n } else { b'A' + (n - TEN) }
 }
 
 // Whether every character is a digit.
@@ -53,7 +66,7 @@ pub fn all(text: &[u8]) -> bool
 fn wide(c: u8) -> u64
     ensures { λ r. ⌜ r ≡ valueOf c % 16 ⌝ }
 {
-    (value(c) % 16) as u64
+    (value(c) % BASE) as u64
 }
 
 // The number that up to 16 digits make.
@@ -64,7 +77,7 @@ pub fn number(text: &[u8]) -> u64
     let mut v: u64 = 0;
     let mut i = 0;
     while i < text.len() {
-        v = v * 16 + wide(text[i]);
+        v = v * WIDE_BASE + wide(text[i]);
         i += 1;
     }
     v
@@ -74,7 +87,7 @@ pub fn number(text: &[u8]) -> u64
 pub fn byte(a: u8, b: u8) -> u8
     ensures { λ r. ⌜ r ≡ byteOf a b ⌝ }
 {
-    value(a) % 16 * 16 + value(b) % 16
+    value(a) % BASE * BASE + value(b) % BASE
 }
 
 // Fills out with a byte for each two digits.
@@ -85,6 +98,6 @@ pub fn bytes(text: &[u8], out: &mut [u8])
     let mut i = out.len();
     while 0 < i {
         i -= 1;
-        out[i] = byte(text[i * 2], text[i * 2 + 1]);
+        out[i] = byte(text[i * DIGITS], text[i * DIGITS + 1]);
     }
 }

@@ -27,8 +27,8 @@ pub fn step(held: &mut [u8; 71], seen: usize, c: u8) -> usize
     if seen < LINE_DIGITS {
         let v = digits::value(c);
         if v < digits::NO_DIGIT {
-            let i = seen / 2;
-            held[i] = held[i] % 16 * 16 + v;
+            let i = seen / digits::DIGITS;
+            held[i] = held[i] % digits::BASE * digits::BASE + v;
             return seen + 1;
         }
     }

@@ -9,13 +9,26 @@ const SPACE: u8 = b' ';
 
 const NEWLINE: u8 = b'\n';
 
+// Where the parts of a line of three bytes stand.
+const FIRST: usize = 0;
+
+const FIRST_END: usize = 2;
+
+const SECOND: usize = 3;
+
+const SECOND_END: usize = 5;
+
+const THIRD: usize = 6;
+
+const THIRD_END: usize = 8;
+
 // Stores the two digits of a byte from `at` on.
 pub fn put_byte(out: &mut [u8], at: usize, b: u8)
     requires { ⌜ at + 1 < length (now out) ⌝ }
     ensures { λ _. ⌜ now (out .exit) ≡ withByte (now (out .entry)) at b ⌝ }
 {
-    out[at] = digits::capital(b / 16);
-    out[at + 1] = digits::capital(b % 16);
+    out[at] = digits::capital(b / digits::BASE);
+    out[at + 1] = digits::capital(b % digits::BASE);
 }
 
 // Fills out with the digits of the bytes.
@@ -26,7 +39,7 @@ pub fn put(bytes: &[u8], out: &mut [u8])
     let mut i = bytes.len();
     while 0 < i {
         i -= 1;
-        put_byte(out, i * 2, bytes[i]);
+        put_byte(out, i * digits::DIGITS, bytes[i]);
     }
 }
 
@@ -35,7 +48,7 @@ pub fn put_at(bytes: &[u8], out: &mut [u8], at: usize)
     requires { ⌜ at + length (now bytes) * 2 ≤ length (now out) ⌝ }
     ensures { λ _. ⌜ now (out .exit) ≡ withText (now (out .entry)) at (now (bytes .entry)) ⌝ }
 {
-    put(bytes, &mut out[at..at + bytes.len() * 2]);
+    put(bytes, &mut out[at..at + bytes.len() * digits::DIGITS]);
 }
 
 // Fills out with a line of three bytes.
@@ -43,10 +56,10 @@ pub fn put_three(out: &mut [u8], a: u8, b: u8, c: u8)
     requires { ⌜ length (now out) ≡ 9 ⌝ }
     ensures { λ _. ⌜ now (out .exit) ≡ threeOf a b c ⌝ }
 {
-    put_byte(out, 0, a);
-    out[2] = SPACE;
-    put_byte(out, 3, b);
-    out[5] = SPACE;
-    put_byte(out, 6, c);
-    out[8] = NEWLINE;
+    put_byte(out, FIRST, a);
+    out[FIRST_END] = SPACE;
+    put_byte(out, SECOND, b);
+    out[SECOND_END] = SPACE;
+    put_byte(out, THIRD, c);
+    out[THIRD_END] = NEWLINE;
 }
