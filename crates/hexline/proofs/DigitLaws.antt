@@ -8,10 +8,10 @@ use native.Mathlib.Nat.{pow-suc, pow-le-pow-right, lt-of-lt-of-le, lt-of-not-le}
 use native.Mathlib.Decide.{decLe}
 use native.Mathlib.Omega.{arith}
 use lib.Arith.{digits-lt}
-use lib.Dec.{lit<}
+use lib.Dec.{ltb, lit<}
 use lib.ListN.{length, take, drop, getD, set}
 use lib.Seq.{drop-cons, take-suc, set-at, length-take-le, append-snoc, take-length, drop-length}
-use borrow.Author.Tests.{le-leb, lt-leb}
+use borrow.Author.Tests.{le-leb, lt-leb, lt-ltb, le-ltb}
 use Rattle.hexline.specs.Digit.{noDigit, within, valueOf, isDigit, allDigits, worth, byteOf, pairs}
 
 -- ---- the value of a character
@@ -49,6 +49,34 @@ value-none c f g h = rw (outside 48 57 c f, outside 65 70 c g, outside 97 102 c 
 pub all-next : (s : List ℕ) (i : ℕ) {b : Bool} → i < length s → isDigit (getD s i 0) ≡ b → allDigits (drop i s) ≡ cond b (allDigits (drop (i + 1) s)) false
 unfolding allDigits
 all-next s i h e = ap allDigits (drop-cons s i 0 h) ∙ rw add-one (ap (λ (t : Bool). cond t (allDigits (drop (suc i) s)) false) e)
+
+-- the greater of two values is a digit's where both are
+greater-digit : (a b : ℕ) → ltb (cond (ltb a b) b a) noDigit ≡ cond (ltb a noDigit) (ltb b noDigit) false
+greater-digit a b = go (decLe b a) (decLe noDigit a)
+  where
+    go : Dec (b ≤ a) → Dec (noDigit ≤ a) → ltb (cond (ltb a b) b a) noDigit ≡ cond (ltb a noDigit) (ltb b noDigit) false
+    go (yes h) (yes k) = rw (le-ltb a b h, le-ltb a noDigit k)
+    go (yes h) (no k) = rw (le-ltb a b h, lt-ltb a noDigit (lt-of-not-le k), lt-ltb b noDigit (omega (arith, lt-of-not-le k)))
+    go (no h) (yes k) = rw (lt-ltb a b (lt-of-not-le h), le-ltb a noDigit k, le-ltb b noDigit (omega (arith, lt-of-not-le h)))
+    go (no h) (no k) = rw (lt-ltb a b (lt-of-not-le h), lt-ltb a noDigit (lt-of-not-le k))
+
+cond-nested : (p q r : Bool) → cond (cond p q false) r false ≡ cond p (cond q r false) false
+cond-nested true q r = refl
+cond-nested false q r = refl
+
+pub cond-itself : (p : Bool) → cond p true false ≡ p
+cond-itself true = refl
+cond-itself false = refl
+
+-- one character more, the greatest value so far being g
+pub all-more : (s : List ℕ) (i g v r : ℕ) → i < length s → v ≡ valueOf (getD s i 0) → r ≡ cond (ltb g v) v g
+    → cond (ltb r noDigit) (allDigits (drop (i + 1) s)) false ≡ cond (ltb g noDigit) (allDigits (drop i s)) false
+all-more s i g v r h e f =
+    let rest = allDigits (drop (i + 1) s) in
+    ap (λ (x : ℕ). cond (ltb x noDigit) rest false) f
+    ∙ ap (λ (p : Bool). cond p rest false) (greater-digit g v)
+    ∙ cond-nested (ltb g noDigit) (ltb v noDigit) rest
+    ∙ ap (λ (p : Bool). cond (ltb g noDigit) p false) (sym (all-next s i h (ap (λ (x : ℕ). ltb x noDigit) (sym e))))
 
 pub all-end : allDigits [] ≡ true
 unfolding allDigits

@@ -1,15 +1,15 @@
 -- Reading byte by byte finds a line exactly where there are 142 digits, and then holds its bytes.
 use mathlib.Core.Path.{_≡_, refl, sym, ap, _∙_}
-use mathlib.Core.Bool.{Bool, true, false, cond}
-use Prim.Native.Nat.{ℕ, suc, _+_, _*_, _/_, _%_, _<_, _≤_}
+use mathlib.Core.Bool.{Bool, true, false, cond, true≢false}
+use Prim.Native.Nat.{ℕ, zero, suc, _+_, _*_, _/_, _%_, _<_, _≤_}
 use mathlib.Core.List.{List, [], _∷_, _++_, append-nil}
 use native.Mathlib.Omega.{arith}
 use lib.Dec.{ltb, eqb}
-use lib.ListN.{length, take, getD, set, length-set}
-use lib.Seq.{take-suc-set, append-snoc, take-length, set-set, getD-set-same}
-use borrow.Author.Tests.{ltb-true, ltb-false, eqb-true, eq-eqb}
+use lib.ListN.{length, take, drop, getD, set, length-set, length-drop}
+use lib.Seq.{take-suc-set, append-snoc, take-length, set-set, getD-set-same, getD-drop, length-take-le}
+use borrow.Author.Tests.{ltb-true, ltb-false, eqb-true, eq-eqb, ne-eqb}
 use Rattle.hexline.specs.Digit.{noDigit, valueOf, isDigit, allDigits, byteOf, pairs}
-use Rattle.hexline.specs.Line.{lineDigits, noLine, Line, lineAt, moved, stepOf, stepsOf, isLine, lineOf}
+use Rattle.hexline.specs.Line.{lineDigits, noLine, newline, Line, lineAt, moved, stepOf, stepsOf, isLine, lineOf, untilNewline, scanned, stopOf, Whole}
 use Rattle.hexline.proofs.LineLaws.{step-more, step-bad, step-past}
 
 both : (p q : Bool) → cond p q false ≡ true → (p ≡ true) × (q ≡ true)
@@ -142,3 +142,40 @@ begun-after (c ∷ s) l h = begun-after s (stepOf l c) (counts-one (l .held) (l 
 pub begun : (held : List ℕ) (c : ℕ) (s : List ℕ) → 0 < stepsOf (lineAt held 0) (c ∷ s) .seen
 unfolding stepsOf
 begun held c s = begun-after s (stepOf (lineAt held 0) c) (counts-one held 0 c (ltb 0 lineDigits) (isDigit c) refl refl)
+
+-- ---- a line that stands whole in the bytes
+
+digit-no-newline : (c : ℕ) → isDigit c ≡ true → c ≡ newline → ⊥
+unfolding valueOf
+digit-no-newline c d e = true≢false (sym d ∙ ap isDigit e)
+
+-- n digits and a newline: that is what is stepped over
+until-digits : (n : ℕ) (s : List ℕ) → n < length s → getD s n 0 ≡ newline → allDigits (take n s) ≡ true → untilNewline s ≡ take n s
+unfolding untilNewline allDigits
+until-digits n [] h e d = absurd (omega arith)
+until-digits zero (c ∷ s) h e d = rw (eq-eqb c newline e)
+until-digits (suc n) (c ∷ s) h e d =
+    let r = both (isDigit c) (allDigits (take n s)) d in
+    rw (ne-eqb c newline (digit-no-newline c (r .0))) (ap (λ (x : List ℕ). c ∷ x) (until-digits n s (omega arith) e (r .1)))
+
+pub whole-until : (s : List ℕ) (from : ℕ) → Whole s from → untilNewline (drop from s) ≡ take lineDigits (drop from s)
+whole-until s from w = until-digits lineDigits (drop from s) (rw (length-drop from s) (omega (arith, w .0))) (getD-drop from s lineDigits 0 ∙ w .1) (w .2)
+
+whole-length : (s : List ℕ) (from : ℕ) → Whole s from → length (take lineDigits (drop from s)) ≡ lineDigits
+whole-length s from w = length-take-le lineDigits (drop from s) (rw (length-drop from s) (omega (arith, w .0)))
+
+whole-line : (s : List ℕ) (from : ℕ) → Whole s from → isLine (take lineDigits (drop from s)) ≡ true
+whole-line s from w = rw (eq-eqb (length (take lineDigits (drop from s))) lineDigits (whole-length s from w)) (w .2)
+
+-- a scan over it stops at its newline, with its bytes
+pub whole-stop : (held s : List ℕ) (from : ℕ) → Whole s from → record { at = from + lineDigits; seen = lineDigits } ≡ stopOf (lineAt held 0) s from
+whole-stop held s from w =
+    let u = whole-until s from w in
+    let p : from + lineDigits ≡ from + length (untilNewline (drop from s)) = ap (λ (n : ℕ). from + n) (sym (ap length u ∙ whole-length s from w)) in
+    let q : lineDigits ≡ scanned (lineAt held 0) s from .seen =
+    sym (ap (λ (x : List ℕ). stepsOf (lineAt held 0) x .seen) u ∙ every-line held (take lineDigits (drop from s)) (whole-line s from w)) in
+    λ j. record { at = p j; seen = q j }
+
+pub whole-held : (held s : List ℕ) (from : ℕ) → length held ≡ 71 → Whole s from → pairs (take lineDigits (drop from s)) ≡ scanned (lineAt held 0) s from .held
+whole-held held s from h w =
+    sym (ap (λ (x : List ℕ). stepsOf (lineAt held 0) x .held) (whole-until s from w) ∙ line-bytes held (take lineDigits (drop from s)) h (whole-line s from w))

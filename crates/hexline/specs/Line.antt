@@ -1,8 +1,9 @@
 -- A line of 142 digits, and how it is read byte by byte.
-use Prim.Native.Nat.{ℕ, _+_, _*_, _/_, _%_}
-use mathlib.Core.Bool.{Bool, false, cond}
+use Prim.Native.Nat.{ℕ, _+_, _*_, _/_, _%_, _<_}
+use mathlib.Core.Bool.{Bool, true, false, cond}
+use mathlib.Core.Path.{_≡_}
 use mathlib.Core.List.{List, [], _∷_}
-use lib.ListN.{length, getD, set, drop}
+use lib.ListN.{length, getD, set, take, drop}
 use lib.Dec.{ltb, eqb}
 use Rattle.hexline.specs.Digit.{isDigit, valueOf, allDigits, pairs}
 use Rattle.hexline.specs.declared.lines.Stop.{Stop}
@@ -67,3 +68,7 @@ scanned l bytes from = stepsOf l (untilNewline (drop from bytes))
 
 abbrev pub stopOf : Line → List ℕ → ℕ → Stop
 stopOf l bytes from = record { at = from + length (untilNewline (drop from bytes)); seen = scanned l bytes from .seen }
+
+-- a whole line and its newline stand at `from`
+abbrev pub Whole : List ℕ → ℕ → Type 0
+Whole bytes from = (from + lineDigits < length bytes) × (getD bytes (from + lineDigits) 0 ≡ newline) × (allDigits (take lineDigits (drop from bytes)) ≡ true)

@@ -1,6 +1,8 @@
 // Hexadecimal digits, of either case where they are read.
 ghost use mathlib.Core.Path.{_≡_};
 ghost use Prim.Native.Nat.{_*_, _%_, _<_, _≤_};
+ghost use mathlib.Core.Bool.{cond};
+ghost use lib.Dec.{ltb};
 ghost use lib.ListN.{length};
 ghost use Rattle.hexline.specs.Digit.{valueOf, allDigits, worth, byteOf, pairs};
 ghost use Rattle.hexline.specs.Print.{capitalOf};
@@ -48,18 +50,24 @@ pub fn capital(n: u8) -> u8
     if n < TEN { b'0' + n } else { b'A' + (n - TEN) }
 }
 
-// Whether every character is a digit.
+// The greater of two values.
+fn greater(a: u8, b: u8) -> u8
+    ensures { λ r. ⌜ r ≡ cond (ltb a b) b a ⌝ }
+{
+    if a < b { b } else { a }
+}
+
+// Whether every character is a digit: whether the greatest value is one's.
 pub fn all(text: &[u8]) -> bool
     ensures { λ r. ⌜ r ≡ allDigits (now (text .entry)) ⌝ }
 {
+    let mut greatest: u8 = 0;
     let mut i = 0;
     while i < text.len() {
-        if value(text[i]) >= NO_DIGIT {
-            return false;
-        }
+        greatest = greater(greatest, value(text[i]));
         i += 1;
     }
-    true
+    greatest < NO_DIGIT
 }
 
 // The value of a digit as a wider number.

@@ -1,6 +1,7 @@
 // Lines of 142 digits, read byte by byte, so that no line has to be kept whole.
 ghost use mathlib.Core.Path.{_≡_};
-ghost use Rattle.hexline.specs.Line.{lineAt, stepOf, scanned, stopOf};
+ghost use mathlib.Core.Bool.{true};
+ghost use Rattle.hexline.specs.Line.{lineAt, stepOf, scanned, stopOf, Whole};
 use crate::digits;
 
 // The digits of a line; and the count that stands for what can't be a line any more.
@@ -35,8 +36,8 @@ pub fn step(held: &mut [u8; 71], seen: usize, c: u8) -> usize
     NO_LINE
 }
 
-// Steps over the bytes from `from` on, up to a newline or the end.
-pub fn scan(held: &mut [u8; 71], seen: usize, bytes: &[u8], from: usize) -> Stop
+// Steps over the bytes from `from` on one by one, up to a newline or the end.
+fn walked(held: &mut [u8; 71], seen: usize, bytes: &[u8], from: usize) -> Stop
     ensures { λ r. ⌜ r ≡ stopOf (lineAt (now (held .entry)) seen) (now (bytes .entry)) from ⌝ }
     ensures { λ _. ⌜ now (held .exit) ≡ scanned (lineAt (now (held .entry)) seen) (now (bytes .entry)) from .held ⌝ }
 {
@@ -51,4 +52,35 @@ pub fn scan(held: &mut [u8; 71], seen: usize, bytes: &[u8], from: usize) -> Stop
         i += 1;
     }
     Stop { at: i, seen: count }
+}
+
+// Whether a line of 142 digits and its newline stand at `from`.
+fn whole(bytes: &[u8], from: usize) -> bool
+    ensures { λ r. ⌜ (r ≡ true → Whole (now (bytes .entry)) from) ⌝ }
+{
+    if bytes.len() <= LINE_DIGITS {
+        return false;
+    }
+    if bytes.len() - LINE_DIGITS <= from {
+        return false;
+    }
+    if bytes[from + LINE_DIGITS] != NEWLINE {
+        return false;
+    }
+    digits::all(&bytes[from..from + LINE_DIGITS])
+}
+
+// Steps over the bytes from `from` on, up to a newline or the end: over a whole line at once.
+pub fn scan(held: &mut [u8; 71], seen: usize, bytes: &[u8], from: usize) -> Stop
+    ensures { λ r. ⌜ r ≡ stopOf (lineAt (now (held .entry)) seen) (now (bytes .entry)) from ⌝ }
+    ensures { λ _. ⌜ now (held .exit) ≡ scanned (lineAt (now (held .entry)) seen) (now (bytes .entry)) from .held ⌝ }
+{
+    if seen == 0 && whole(bytes, from) {
+        digits::bytes(&bytes[from..from + LINE_DIGITS], held);
+        return Stop {
+            at: from + LINE_DIGITS,
+            seen: LINE_DIGITS,
+        };
+    }
+    walked(held, seen, bytes, from)
 }

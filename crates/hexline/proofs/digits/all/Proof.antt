@@ -1,21 +1,22 @@
--- What is left has only digits just where the whole has.
+-- What is left has only digits, and no value so far was none's, just where the whole has only digits.
 use mathlib.Core.Path.{_≡_, refl, sym, ap, _∙_}
+use mathlib.Core.Bool.{Bool, true, false, cond}
 use Prim.Native.Nat.{ℕ, _≤_, _-_}
 use native.Mathlib.Omega.{arith}
-use borrow.Author.Tests.{lt-ltb, le-ltb}
+use lib.Dec.{ltb}
 use lib.ListN.{length, drop}
 use lib.Seq.{drop-length}
-use Rattle.hexline.specs.Digit.{allDigits}
-use Rattle.hexline.proofs.DigitLaws.{all-next, all-end}
+use Rattle.hexline.specs.Digit.{noDigit, allDigits}
+use Rattle.hexline.proofs.DigitLaws.{all-more, all-end, cond-itself}
 use borrow.Author.Needs.{needs}
 use Rattle.hexline.proofs.digits.all.Statement.{statement}
 use Rattle.hexline.proofs.digits.all.Tie as tie
 
 abbrev Inv-loop : tie.InvT-loop
-Inv-loop text i₀ i = (i ≤ length text) × (allDigits (drop i text) ≡ allDigits text)
+Inv-loop text greatest₀ i₀ greatest i = (i ≤ length text) × (cond (ltb greatest noDigit) (allDigits (drop i text)) false ≡ allDigits text)
 
 abbrev μ-loop : tie.MeasureT-loop
-μ-loop text i₀ i = length text - i
+μ-loop text greatest₀ i₀ greatest i = length text - i
 
 loop-holds : tie.Need-loop-holds Inv-loop μ-loop
 loop-holds c = (search needs, refl)
@@ -26,12 +27,8 @@ shared-slice-read-value c = search needs
 value-requires : tie.Need-value-requires Inv-loop μ-loop
 value-requires c κs = search needs
 
-returns : tie.Need-returns Inv-loop μ-loop
-returns c =
-    let l = c .before .before .before .before .loop in
-    let s = c .before .before .before .before .before .before .args .text .now in
-    let h = c .before .before .before .loop-test .taken in
-    sym (sym (l .inv .1) ∙ all-next s (l .i) h (le-ltb _ _ (rw (c .before .value .ensures) at (c .if1 .taken))))
+greater-requires : tie.Need-greater-requires Inv-loop μ-loop
+greater-requires c κs = search needs
 
 add-i : tie.Need-add-i Inv-loop μ-loop
 add-i c = search needs
@@ -44,14 +41,15 @@ loop-again c =
     let l = c .before .before .before .before .loop in
     let s = c .before .before .before .before .before .before .args .text .now in
     let h = c .before .before .before .loop-test .taken in
-    (omega arith, sym (all-next s (l .i) h (lt-ltb _ _ (rw (c .before .value .ensures) at (c .if1 .left)))) ∙ l .inv .1)
+    (omega arith, all-more s (l .i) (l .greatest) (c .before .value .result) (c .greater .result) h (c .before .value .ensures) (c .greater .ensures) ∙ l .inv .1)
 
-returns-2 : tie.Need-returns-2 Inv-loop μ-loop
-returns-2 c =
+returns : tie.Need-returns Inv-loop μ-loop
+returns c =
     let l = c .before .loop in
     let s = c .before .before .before .args .text .now in
     let e : l .i ≡ length s = omega arith in
-    sym (sym (l .inv .1) ∙ ap (λ (n : ℕ). allDigits (drop n s)) e ∙ ap allDigits (drop-length s) ∙ all-end)
+    let done : allDigits (drop (l .i) s) ≡ true = ap (λ (n : ℕ). allDigits (drop n s)) e ∙ ap allDigits (drop-length s) ∙ all-end in
+    sym (cond-itself (ltb (l .greatest) noDigit)) ∙ sym (ap (λ (b : Bool). cond (ltb (l .greatest) noDigit) b false) done) ∙ l .inv .1
 
 pub all-spec : {M : Type 1} → statement M
 all-spec =
@@ -62,8 +60,8 @@ all-spec =
     loop-holds
     shared-slice-read-value
     value-requires
-    returns
+    greater-requires
     add-i
     loop-less
     loop-again
-    returns-2)
+    returns)

@@ -1,68 +1,61 @@
--- What is left to step over from here leads where the whole led.
-use mathlib.Core.Path.{_≡_, refl, ap, _∙_}
-use Prim.Native.Nat.{_-_, _+_}
-use lib.ListN.{length, drop}
-use Rattle.hexline.specs.Line.{Line, lineAt, untilNewline, scanned}
-use Rattle.hexline.proofs.LineLaws.{until-stop, until-end, scan-next, place-next, scan-end, stop-end}
+-- A whole line is taken at once; every other is walked over.
+use mathlib.Core.Path.{_≡_, _∙_}
+use Prim.Native.Nat.{_+_, _-_}
+use native.Mathlib.Omega.{arith}
+use Rattle.hexline.proofs.WholeLine.{whole-stop, whole-held}
 use borrow.Author.Needs.{needs}
 use Rattle.hexline.proofs.lines.scan.Statement.{statement}
 use Rattle.hexline.proofs.lines.scan.Tie as tie
 
-abbrev Inv-loop : tie.InvT-loop
-Inv-loop held₀ seen bytes from count₀ i₀ held count i = (scanned (lineAt held count) bytes i ≡ scanned (lineAt held₀ seen) bytes from) × (i + length (untilNewline (drop i bytes)) ≡ from + length (untilNewline (drop from bytes)))
+whole-requires : tie.Need-whole-requires
+whole-requires c κs = search needs
 
-abbrev μ-loop : tie.MeasureT-loop
-μ-loop held₀ seen bytes from count₀ i₀ held count i = length bytes - i
+add-bytes : tie.Need-add-bytes
+add-bytes c = omega (arith, c .before .whole .ensures (c .if2 .taken) .0)
 
-loop-holds : tie.Need-loop-holds Inv-loop μ-loop
-loop-holds c = (refl, refl)
+sub-bytes : tie.Need-sub-bytes
+sub-bytes c = search needs
 
-shared-slice-read-c : tie.Need-shared-slice-read-c Inv-loop μ-loop
-shared-slice-read-c c = search needs
+part-bytes-start : tie.Need-part-bytes-start
+part-bytes-start c = search needs
 
-returns : tie.Need-returns Inv-loop μ-loop
+part-bytes-end : tie.Need-part-bytes-end
+part-bytes-end c = omega (arith, c .before .whole .ensures (c .if2 .taken) .0)
+
+bytes-requires : tie.Need-bytes-requires
+bytes-requires c κs = search needs
+
+add-t8 : tie.Need-add-t8
+add-t8 c =
+    let d = c .before .before .before in
+    omega (arith, d .before .whole .ensures (d .if2 .taken) .0)
+
+returns : tie.Need-returns
 returns c =
-    let l = c .before .before .before .loop in
-    let a = c .before .before .before .before .before .args in
-    let s = a .bytes .now in
-    let e = until-stop s (l .i) (c .before .before .loop-test .taken) (c .if1 .taken) in
-    (stop-end (lineAt (l .held) (l .count)) (lineAt (a .held .now) (a .seen)) s (l .i) (a .from) e (l .inv .0) (l .inv .1), ap (λ (x : Line). x .held) (scan-end (lineAt (l .held) (l .count)) (lineAt (a .held .now) (a .seen)) s (l .i) (a .from) e (l .inv .0)))
+    let d = c .before .before .before in
+    let w = d .before .whole .ensures (d .if2 .taken) in
+    let a = d .before .before .before .before .args in
+    let first = d .before .before .if1 .taken in
+    let n : a .from + 142 - a .from ≡ 142 = omega arith in
+    (rw first (whole-stop (a .held .now) (a .bytes .now) (a .from) w), (rw n at (c .bytes .ensures)) ∙ rw first (whole-held (a .held .now) (a .bytes .now) (a .from) (omega arith) w))
 
-step-requires : tie.Need-step-requires Inv-loop μ-loop
-step-requires c κs = search needs
+walked-requires : tie.Need-walked-requires
+walked-requires c κs = search needs
 
-add-i : tie.Need-add-i Inv-loop μ-loop
-add-i c = search needs
-
-loop-less : tie.Need-loop-less Inv-loop μ-loop
-loop-less c = search needs
-
-loop-again : tie.Need-loop-again Inv-loop μ-loop
-loop-again c =
-    let l = c .before .before .before .before .before .loop in
-    let s = c .before .before .before .before .before .before .before .args .bytes .now in
-    let h = c .before .before .before .before .loop-test .taken in
-    (scan-next (lineAt (l .held) (l .count)) _ s (l .i) h (c .before .before .if1 .left) (c .step .ensures) ∙ l .inv .0, place-next s (l .i) h (c .before .before .if1 .left) ∙ l .inv .1)
-
-returns-2 : tie.Need-returns-2 Inv-loop μ-loop
-returns-2 c =
-    let l = c .before .loop in
-    let a = c .before .before .before .args in
-    let s = a .bytes .now in
-    let e = until-end s (l .i) (c .loop-test .left) in
-    (stop-end (lineAt (l .held) (l .count)) (lineAt (a .held .now) (a .seen)) s (l .i) (a .from) e (l .inv .0) (l .inv .1), ap (λ (x : Line). x .held) (scan-end (lineAt (l .held) (l .count)) (lineAt (a .held .now) (a .seen)) s (l .i) (a .from) e (l .inv .0)))
+returns-2 : tie.Need-returns-2
+returns-2 c = search needs
 
 pub scan-spec : {M : Type 1} → statement M
 scan-spec =
     tie.close
     (tie.spec
-    Inv-loop
-    μ-loop
-    loop-holds
-    shared-slice-read-c
+    whole-requires
+    add-bytes
+    sub-bytes
+    part-bytes-start
+    part-bytes-end
+    bytes-requires
+    add-t8
     returns
-    step-requires
-    add-i
-    loop-less
-    loop-again
+    walked-requires
     returns-2)
