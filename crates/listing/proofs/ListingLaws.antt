@@ -13,7 +13,8 @@ use Rattle.bridge.specs.Chosen.{chosenOf}
 use Rattle.bridge.specs.Receive.{receiveOf}
 use Rattle.bridge.specs.declared.Bridge.{Bridge}
 use Rattle.bridge.specs.declared.Done.{Done}
-use Rattle.listing.specs.Listing.{lineDigits, badLine, toldBy, toldOf, doneOf, listedOf}
+use Rattle.hexline.specs.Line.{lineDigits}
+use Rattle.listing.specs.Listing.{badLine, toldBy, toldOf, doneOf, listedOf}
 use Rattle.listing.specs.declared.Listed.{Listed}
 
 pub told-by : (b : Bridge) (answer : ℕ) {x : Choice} → x ≡ chosenOf b → toldBy x b answer ≡ toldOf b answer

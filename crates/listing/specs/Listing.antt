@@ -1,14 +1,17 @@
 -- What the listing prints for a line: the answer, and the clock that is chosen then.
 use mathlib.Core.Path.{_≡_}
-use mathlib.Core.Bool.{cond}
+use mathlib.Core.Bool.{false, cond}
 use mathlib.Core.List.{List}
-use Prim.Native.Nat.{ℕ}
+use Prim.Native.Nat.{ℕ, _^_}
 use lib.Dec.{eqb}
-use lib.ListN.{length, getD, drop}
+use lib.ListN.{length, getD, drop, replicate}
 use Rattle.numbers.specs.Digits.{numberAt}
 use Rattle.port.specs.declared.Choice.{Choice}
 use Rattle.port.specs.declared.Choice.the-variants.{Nothing, Clock}
-use Rattle.bridge.specs.State.{Lawful}
+use Rattle.hexline.specs.Line.{lineDigits}
+use Rattle.bridge.specs.State.{mostPorts, Lawful}
+use Rattle.bridge.specs.Setup.{noMac, noPrecedence, measuredSetting, setupOf}
+use Rattle.bridge.specs.Links.{linksOf}
 use Rattle.bridge.specs.Chosen.{chosenOf}
 use Rattle.bridge.specs.Receive.{receiveOf}
 use Rattle.bridge.specs.declared.Bridge.{Bridge}
@@ -24,10 +27,24 @@ printedBytes = 9
 abbrev pub heldBytes : ℕ
 heldBytes = 71
 
--- the digits of a line, the refusal of one with others, and what is printed for a clock that there isn't
-abbrev pub lineDigits : ℕ
-lineDigits = 142
+-- the listing's bridge: two measured ports, both linked, not capable, the default times; address and own precedence can't show
+abbrev pub listingPorts : ℕ
+listingPorts = 2
 
+abbrev pub bothLinked : ℕ
+bothLinked = 3
+
+abbrev pub defaultTimeout : ℕ
+defaultTimeout = 2 ^ 39
+
+abbrev pub defaultBack : ℕ
+defaultBack = 10995116278
+
+unfoldable pub startOf : Bridge
+startOf =
+    linksOf (setupOf listingPorts noMac noPrecedence false defaultTimeout defaultBack (replicate mostPorts measuredSetting) .next) bothLinked .next
+
+-- the refusal of a line that isn't 142 digits, and what is printed for a clock that there isn't
 abbrev pub badLine : ℕ
 badLine = 14
 

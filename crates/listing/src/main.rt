@@ -3,7 +3,7 @@ ghost use mathlib.Core.Path.{_≡_};
 ghost use Prim.Native.Nat.{_+_, _≤_};
 ghost use lib.ListN.{length};
 ghost use Rattle.bridge.specs.State.{Lawful};
-ghost use Rattle.listing.specs.Listing.{printedBytes, heldBytes, toldOf, listedOf, Ready};
+ghost use Rattle.listing.specs.Listing.{printedBytes, heldBytes, startOf, toldOf, listedOf, Ready};
 use bridge::Bridge;
 use frame::Mac;
 use frame::Precedence;
@@ -53,6 +53,7 @@ struct Session {
 
 // The bridge before the first line.
 fn start() -> Bridge
+    ensures { λ r. ⌜ r ≡ startOf ⌝ }
     ensures { λ r. ⌜ Lawful r ⌝ }
 {
     let nobody = Mac(0, 0, 0, 0, 0, 0);
