@@ -21,13 +21,12 @@ use Rattle.port.specs.Record.{emptyPort, agedPort, usedPort}
 use Rattle.port.specs.Send.{sendingNo}
 use Rattle.port.specs.declared.Setting.{Setting}
 use Rattle.port.specs.declared.Port.{Port}
-use Rattle.port.proofs.Choices.{if-when}
-use Rattle.port.proofs.PortLaws.{received-count, aged-count}
-use Rattle.bridge.specs.Table.{each, portAt}
-use Rattle.bridge.specs.State.{mostPorts, withLinks, answers, linked}
-use Rattle.bridge.specs.Refusals.{bit, portNo, sendNo, ownNo, maskBeyond}
-use Rattle.bridge.specs.Setup.{setupFits, setupOf}
-use Rattle.bridge.specs.Links.{relinkedPort, linksOf}
+use Rattle.table.specs.Table.{each, portAt, mostPorts, relinkedPort}
+use Rattle.table.specs.Refusals.{bit, portNo, sendNo, ownNo, maskBeyond}
+use Rattle.table.specs.Fits.{setupFits}
+use Rattle.bridge.specs.State.{withLinks, answers, linked}
+use Rattle.bridge.specs.Setup.{setupOf}
+use Rattle.bridge.specs.Links.{linksOf}
 use Rattle.bridge.specs.Own.{ownClockOf}
 use Rattle.bridge.specs.Receive.{readBy, heardOf, receiveOf}
 use Rattle.bridge.specs.Age.{ageOf}
@@ -36,7 +35,9 @@ use Rattle.bridge.specs.declared.Bridge.{Bridge}
 use Rattle.bridge.specs.declared.Done.{Done}
 use Rattle.bridge.specs.declared.Linked.{Linked}
 use Rattle.bridge.specs.declared.LinkCount.the-variants.{Refused, Up}
-use Rattle.bridge.proofs.Walk.{each-at, each-length}
+use Rattle.port.proofs.Choices.{if-when}
+use Rattle.port.proofs.PortLaws.{received-count, aged-count}
+use Rattle.table.proofs.Walk.{each-at, each-length}
 use Rattle.bridge.proofs.Line.{sent-frame-count}
 
 -- ---- calls in a row

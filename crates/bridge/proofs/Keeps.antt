@@ -8,11 +8,9 @@ use borrow.Author.Tests.{leb-true, leb-false, ltb-true, eqb-true}
 use lib.Dec.{leb, ltb, eqb}
 use lib.ListN.{length, set, replicate, length-set}
 use lib.Pow.{pow-pos}
-use Rattle.numbers.proofs.Places.{Bytes}
 use Rattle.times.specs.Times.{circle}
-use Rattle.times.specs.Sent.{longestElapsed}
 use Rattle.times.specs.declared.LocalTime.{LocalTime}
-use Rattle.times.proofs.TestLaws.{both-hold}
+use Rattle.relay.specs.Sent.{longestElapsed}
 use Rattle.frame.specs.Frame.{frameLength}
 use Rattle.frame.specs.Read.{readOf}
 use Rattle.frame.specs.Write.{unwritten}
@@ -26,13 +24,12 @@ use Rattle.port.specs.Lawful.{LawfulPort, FieldsInRange}
 use Rattle.port.specs.declared.Port.{Port}
 use Rattle.port.specs.declared.Setting.{Setting}
 use Rattle.port.specs.declared.Sending.the-variants as Sendings
-use Rattle.port.proofs.Choices.{if-when}
-use Rattle.port.proofs.PortLaws.{empty-lawful, used-lawful, aged-lawful, received-lawful, told-lawful, read-in-range, sending-written}
-use Rattle.bridge.specs.Table.{each, portAt}
-use Rattle.bridge.specs.State.{mostPorts, Lawful, withPorts, withPort}
-use Rattle.bridge.specs.Refusals.{bit, portNo, sendNo, ownNo, maskBeyond}
-use Rattle.bridge.specs.Setup.{leastTimeout, greatestTimeout, setupFits, freshOf, setupOf}
-use Rattle.bridge.specs.Links.{relinkedPort, linksOf}
+use Rattle.table.specs.Table.{each, portAt, mostPorts, relinkedPort}
+use Rattle.table.specs.Refusals.{bit, portNo, sendNo, ownNo, maskBeyond}
+use Rattle.table.specs.Fits.{leastTimeout, greatestTimeout, setupFits}
+use Rattle.bridge.specs.State.{Lawful, withPorts, withPort}
+use Rattle.bridge.specs.Setup.{freshOf, setupOf}
+use Rattle.bridge.specs.Links.{linksOf}
 use Rattle.bridge.specs.Own.{ownClockOf}
 use Rattle.bridge.specs.Receive.{heardOf, readBy, receiveOf}
 use Rattle.bridge.specs.Age.{ageOf}
@@ -40,8 +37,12 @@ use Rattle.bridge.specs.Send.{composedOf, usedOf, sendOf}
 use Rattle.bridge.specs.declared.Bridge.{Bridge}
 use Rattle.bridge.specs.declared.Done.{Done}
 use Rattle.bridge.specs.declared.Linked.{Linked}
-use Rattle.bridge.proofs.Walk.{each-length, each-all, set-all}
-use Rattle.bridge.proofs.CheckLaws.{port-ready, own-ready}
+use Rattle.numbers.proofs.Places.{Bytes}
+use Rattle.times.proofs.TestLaws.{both-hold}
+use Rattle.port.proofs.Choices.{if-when}
+use Rattle.port.proofs.PortLaws.{empty-lawful, used-lawful, aged-lawful, received-lawful, told-lawful, read-in-range, sending-written}
+use Rattle.table.proofs.Walk.{each-length, each-all, set-all}
+use Rattle.table.proofs.CheckLaws.{port-ready, own-ready}
 
 abbrev Next : Done → Type 0
 Next d = Lawful (d .next)

@@ -9,9 +9,10 @@ use lib.Dec.{ltb}
 use Rattle.port.specs.Choose.{rankOf, ownCandidate, betterOf}
 use Rattle.port.specs.declared.Choice.{Choice}
 use Rattle.port.specs.declared.Choice.the-variants.{Nothing, Clock}
-use Rattle.port.proofs.Choices.{if-when}
-use Rattle.bridge.specs.Chosen.{candidatesFrom, bestOf, chosenOf}
+use Rattle.table.specs.Table.{candidatesFrom, bestOf}
+use Rattle.bridge.specs.Chosen.{chosenOf}
 use Rattle.bridge.specs.declared.Bridge.{Bridge}
+use Rattle.port.proofs.Choices.{if-when}
 
 -- own clock first, then the ports
 abbrev pub candidates : Bridge → List Choice

@@ -1,6 +1,3 @@
-pub mod Walk
-pub mod TableLaws
-pub mod CheckLaws
 pub mod StateLaws
 pub mod Keeps
 pub mod Refused

@@ -10,27 +10,27 @@ use lib.IntN.{pos}
 use lib.ListN.{length, drop}
 use Rattle.numbers.specs.Digits.{numberAt}
 use Rattle.times.specs.Times.{sinceOf, units}
-use Rattle.times.specs.Keep.{LawfulSamples}
-use Rattle.times.specs.Sent.{reachOf}
-use Rattle.times.specs.Line.{NearLine}
-use Rattle.times.specs.declared.Sample.{Sample}
-use Rattle.times.specs.declared.Samples.the-variants.{Two}
-use Rattle.times.proofs.SentLaws.{sent-range}
-use Rattle.times.proofs.Bound.{sent-near}
+use Rattle.samples.specs.Keep.{LawfulSamples}
+use Rattle.samples.specs.declared.Sample.{Sample}
+use Rattle.samples.specs.declared.Samples.the-variants.{Two}
+use Rattle.relay.specs.Sent.{reachOf}
+use Rattle.relay.specs.Line.{NearLine}
 use Rattle.frame.specs.Frame.{frameLength}
 use Rattle.frame.specs.Write.{bytesOf}
 use Rattle.frame.specs.declared.Fields.{Fields}
-use Rattle.frame.proofs.Trip.{grand-bytes, count-byte}
 use Rattle.port.specs.Send.{sendingNo}
 use Rattle.port.specs.declared.Sending.{Sending}
-use Rattle.port.proofs.PortLaws.{ReadOff, sending-read-off}
-use Rattle.bridge.specs.Table.{portAt}
+use Rattle.table.specs.Table.{portAt}
+use Rattle.table.specs.Refusals.{sendNo}
 use Rattle.bridge.specs.State.{Lawful, answers}
-use Rattle.bridge.specs.Refusals.{sendNo}
 use Rattle.bridge.specs.Chosen.{chosenOf}
 use Rattle.bridge.specs.Send.{chosenSamples, composedOf, usedOf, sendOf, filledBy, sendBytes}
 use Rattle.bridge.specs.declared.Bridge.{Bridge}
-use Rattle.bridge.proofs.TableLaws.{chosen-lawful}
+use Rattle.relay.proofs.SentLaws.{sent-range}
+use Rattle.relay.proofs.Bound.{sent-near}
+use Rattle.frame.proofs.Trip.{grand-bytes, count-byte}
+use Rattle.port.proofs.PortLaws.{ReadOff, sending-read-off}
+use Rattle.table.proofs.TableLaws.{chosen-lawful}
 
 -- grandTime stands in these bytes of a frame
 abbrev pub grandStart : ℕ

@@ -18,13 +18,11 @@ use Rattle.port.specs.Send.{sendingNo}
 use Rattle.port.specs.declared.Last.the-variants.{Was}
 use Rattle.port.specs.declared.Setting.{Setting}
 use Rattle.port.specs.declared.Sending.{Sending}
-use Rattle.port.proofs.Choices.{if-when}
-use Rattle.port.proofs.PortLaws.{received-refused, told-refused, NoFrame, sending-refused}
-use Rattle.bridge.proofs.CheckLaws.{port-most, send-most}
-use Rattle.bridge.specs.Table.{portAt}
+use Rattle.table.specs.Table.{portAt}
+use Rattle.table.specs.Refusals.{portNo, sendNo, ownNo, maskBeyond}
+use Rattle.table.specs.Fits.{setupFits}
 use Rattle.bridge.specs.State.{withPort, withClock, answers}
-use Rattle.bridge.specs.Refusals.{portNo, sendNo, ownNo, maskBeyond}
-use Rattle.bridge.specs.Setup.{setupFits, noBridge, setupOf}
+use Rattle.bridge.specs.Setup.{noBridge, setupOf}
 use Rattle.bridge.specs.Links.{linksOf}
 use Rattle.bridge.specs.Own.{ownClockOf}
 use Rattle.bridge.specs.Receive.{readBy, heardOf, receiveOf}
@@ -34,6 +32,9 @@ use Rattle.bridge.specs.declared.Bridge.{Bridge}
 use Rattle.bridge.specs.declared.Done.{Done}
 use Rattle.bridge.specs.declared.Linked.{Linked}
 use Rattle.bridge.specs.declared.LinkCount.the-variants.{Refused}
+use Rattle.port.proofs.Choices.{if-when}
+use Rattle.port.proofs.PortLaws.{received-refused, told-refused, NoFrame, sending-refused}
+use Rattle.table.proofs.CheckLaws.{port-most, send-most}
 
 -- setup, 1: what stands for no state
 pub setup-none : (n : ℕ) (mac : Mac) (own : Precedence) (capable : Bool) (timeout back : ℕ) (settings : List Setting)

@@ -1,16 +1,16 @@
 -- Laws of the calls: what each definition comes to, case by case.
 use mathlib.Core.Path.{_≡_, refl, sym, ap, _∙_}
-use mathlib.Core.Bool.{Bool, true, false, cond, _&&_}
+use mathlib.Core.Bool.{Bool, true, false, cond}
 use mathlib.Core.List.{List}
-use Prim.Native.Nat.{ℕ, _-_, _<_, _≤_}
+use Prim.Native.Nat.{ℕ, _+_, _-_, _<_, _≤_}
 use borrow.Author.Tests.{eq-eqb, ne-eqb, lt-ltb, le-ltb}
 use lib.Count.{ones}
 use lib.Dec.{eqb, leb}
 use lib.ListN.{length, drop}
 use Rattle.times.specs.Times.{circle}
-use Rattle.times.specs.declared.Drift.{Drift}
-use Rattle.times.specs.declared.Drift.the-variants as Drifts
-use Rattle.times.specs.Drift.{driftOf}
+use Rattle.relay.specs.declared.Drift.{Drift}
+use Rattle.relay.specs.declared.Drift.the-variants as Drifts
+use Rattle.relay.specs.Drift.{driftOf}
 use Rattle.frame.specs.Frame.{frameLength}
 use Rattle.frame.specs.Read.{readOf}
 use Rattle.frame.specs.Write.{bytesOf, unwritten, writtenAs, writtenOf}
@@ -18,7 +18,7 @@ use Rattle.frame.specs.declared.Fields.{Fields}
 use Rattle.frame.specs.declared.Mac.{Mac}
 use Rattle.frame.specs.declared.Precedence.{Precedence}
 use Rattle.frame.specs.declared.Reading.{Reading}
-use Rattle.port.specs.Record.{emptyPort, agedPort}
+use Rattle.port.specs.Record.{agedPort}
 use Rattle.port.specs.Own.{toldOf}
 use Rattle.port.specs.Send.{sendingNo, deliveredNo, deliveredBytes}
 use Rattle.port.specs.declared.Port.{Port}
@@ -26,12 +26,12 @@ use Rattle.port.specs.declared.Setting.{Setting}
 use Rattle.port.specs.declared.Told.{Told}
 use Rattle.port.specs.declared.Sending.{Sending}
 use Rattle.port.specs.declared.Sending.the-variants as Sendings
-use Rattle.port.proofs.Choices.{if-true, if-false}
-use Rattle.bridge.specs.Table.{each, samplesAt}
+use Rattle.table.specs.Table.{each, samplesAt, relinkedPort, numberOf}
+use Rattle.table.specs.Refusals.{portNo, sendNo, ownNo, maskBeyond}
+use Rattle.table.specs.Fits.{setupFits}
 use Rattle.bridge.specs.State.{withPorts, withLinks, answers, linked}
-use Rattle.bridge.specs.Refusals.{bit, portNo, sendNo, ownNo, maskBeyond}
-use Rattle.bridge.specs.Setup.{setupFits, freshOf, noBridge, setupOf}
-use Rattle.bridge.specs.Links.{relinkedPort, linksOf}
+use Rattle.bridge.specs.Setup.{freshOf, noBridge, setupOf}
+use Rattle.bridge.specs.Links.{linksOf}
 use Rattle.bridge.specs.Own.{toldAs, ownClockOf}
 use Rattle.bridge.specs.Receive.{readBy, receiveOf}
 use Rattle.bridge.specs.Age.{ageOf}
@@ -40,6 +40,11 @@ use Rattle.bridge.specs.Drift.{driftAt}
 use Rattle.bridge.specs.declared.Bridge.{Bridge}
 use Rattle.bridge.specs.declared.Done.{Done}
 use Rattle.bridge.specs.declared.LinkCount.the-variants.{Refused, Up}
+use Rattle.port.proofs.Choices.{if-true, if-false}
+use native.Mathlib.Omega.{arith}
+use Rattle.port.specs.Choose.{ownCandidate}
+use Rattle.bridge.specs.Chosen.{chosenOf}
+use Rattle.table.proofs.TableLaws.{best-number}
 
 -- ---- a refusal k found by numbers alone, whose definition is `want`: where it is none, and where it is one
 
@@ -77,19 +82,6 @@ module _ (b : Bridge) (at : ℕ) where
   age-done ports e p = ap (λ (l : List Port). answers 0 (withPorts b l)) p ∙ if-false _ _ _ e
 
 -- ---- links
-
-module _ (links mask i : ℕ) (port : Port) where
-  pub relinked-down : bit links i ≡ 1 → bit mask i ≡ 0 → emptyPort ≡ relinkedPort links mask i port
-  unfolding relinkedPort
-  relinked-down a z = λ k. cond (sym (eq-eqb (bit links i) 1 a) k && sym (eq-eqb (bit mask i) 0 z) k) emptyPort port
-
-  pub relinked-up : bit links i ≡ 1 → (bit mask i ≡ 0 → ⊥) → port ≡ relinkedPort links mask i port
-  unfolding relinkedPort
-  relinked-up a z = λ k. cond (sym (eq-eqb (bit links i) 1 a) k && sym (ne-eqb (bit mask i) 0 z) k) emptyPort port
-
-  pub relinked-out : (bit links i ≡ 1 → ⊥) → port ≡ relinkedPort links mask i port
-  unfolding relinkedPort
-  relinked-out a = ap (λ (t : Bool). cond (t && eqb (bit mask i) 0) emptyPort port) (sym (ne-eqb (bit links i) 1 a))
 
 module _ (b : Bridge) (mask : ℕ) where
   pub links-refused : maskBeyond (b .n) mask ≡ true → linked Refused b ≡ linksOf b mask
@@ -167,3 +159,12 @@ module _ (b : Bridge) (port : ℕ) where
   pub drift-done : (d : Drift) → port ≤ b .n → d ≡ driftOf (samplesAt port (b .clock) (b .ports)) → d ≡ driftAt b port
   unfolding driftAt
   drift-done d h e = e ∙ if-false _ _ _ (le-ltb _ _ h)
+
+-- the number of the chosen clock is that of a port, or 0
+pub chosen-number : (b : Bridge) → length (b .ports) ≡ 8 → numberOf (chosenOf b) ≤ 8
+unfolding chosenOf ownCandidate
+chosen-number b e = omega (arith, best-number 0 (b .ports) (ownCandidate (b .capable) (b .own)) (own-number (b .capable)), e)
+  where
+    own-number : (t : Bool) → numberOf (ownCandidate t (b .own)) ≤ 0 + length (b .ports)
+    own-number true = omega arith
+    own-number false = omega arith

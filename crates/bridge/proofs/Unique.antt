@@ -5,7 +5,7 @@ use mathlib.Core.List.{List}
 use Prim.Native.Nat.{ℕ}
 use lib.ListN.{length}
 use denote.Ref.{RefT}
-use Rattle.times.specs.declared.Drift.{Drift}
+use Rattle.relay.specs.declared.Drift.{Drift}
 use Rattle.frame.specs.Read.{readOf}
 use Rattle.frame.specs.Write.{unwritten, writtenOf}
 use Rattle.frame.specs.Better.{lies, betterOf}

@@ -4,7 +4,7 @@ use Prim.Native.Nat.{ℕ}
 use lib.Dec.{leb}
 use Rattle.times.specs.Times.{circle}
 use Rattle.port.specs.Record.{agedPort}
-use Rattle.bridge.specs.Table.{each}
+use Rattle.table.specs.Table.{each}
 use Rattle.bridge.specs.State.{withPorts, answers}
 use Rattle.bridge.specs.declared.Bridge.{Bridge}
 use Rattle.bridge.specs.declared.Done.{Done}

@@ -1,6 +1,4 @@
-pub mod Table
 pub mod State
-pub mod Refusals
 pub mod Setup
 pub mod Links
 pub mod Own

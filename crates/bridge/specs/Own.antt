@@ -4,8 +4,8 @@ use Prim.Native.Nat.{ℕ}
 use lib.Dec.{eqb}
 use Rattle.port.specs.Own.{toldOf}
 use Rattle.port.specs.declared.Told.{Told}
+use Rattle.table.specs.Refusals.{ownNo}
 use Rattle.bridge.specs.State.{withClock, answers}
-use Rattle.bridge.specs.Refusals.{ownNo}
 use Rattle.bridge.specs.declared.Bridge.{Bridge}
 use Rattle.bridge.specs.declared.Done.{Done}
 

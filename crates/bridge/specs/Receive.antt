@@ -5,7 +5,7 @@ use Prim.Native.Nat.{ℕ, _-_}
 use lib.Dec.{eqb}
 use lib.ListN.{getD}
 use Rattle.times.specs.declared.LocalTime.{LocalTime}
-use Rattle.times.specs.declared.DelaySetting.{DelaySetting}
+use Rattle.relay.specs.declared.DelaySetting.{DelaySetting}
 use Rattle.frame.specs.Read.{readOf}
 use Rattle.frame.specs.declared.Fields.{Fields}
 use Rattle.frame.specs.declared.Reading.{Reading}
@@ -13,10 +13,10 @@ use Rattle.frame.specs.declared.Reading.the-variants.{Frame, Refused}
 use Rattle.port.specs.Choose.{chosenHop}
 use Rattle.port.specs.Receive.{receivedOf}
 use Rattle.port.specs.declared.Received.{Received}
-use Rattle.bridge.specs.Table.{portAt}
+use Rattle.table.specs.Table.{portAt}
+use Rattle.table.specs.Refusals.{portNo}
+use Rattle.table.specs.Fits.{measuredSetting}
 use Rattle.bridge.specs.State.{withPort, answers}
-use Rattle.bridge.specs.Refusals.{portNo}
-use Rattle.bridge.specs.Setup.{measuredSetting}
 use Rattle.bridge.specs.Chosen.{chosenOf}
 use Rattle.bridge.specs.declared.Bridge.{Bridge}
 use Rattle.bridge.specs.declared.Done.{Done}

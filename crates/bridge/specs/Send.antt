@@ -5,16 +5,16 @@ use Prim.Native.Nat.{ℕ, _-_}
 use lib.Dec.{eqb}
 use lib.ListN.{length, drop}
 use Rattle.times.specs.declared.LocalTime.{LocalTime}
-use Rattle.times.specs.declared.Samples.{Samples}
+use Rattle.samples.specs.declared.Samples.{Samples}
 use Rattle.frame.specs.Frame.{frameLength}
 use Rattle.frame.specs.Write.{bytesOf}
 use Rattle.port.specs.Record.{usedPort}
 use Rattle.port.specs.Send.{sendingOf, sendingNo}
 use Rattle.port.specs.declared.Sending.{Sending}
 use Rattle.port.specs.declared.Sending.the-variants.{Refused, Frame}
-use Rattle.bridge.specs.Table.{portAt, samplesOfChoice}
+use Rattle.table.specs.Table.{portAt, samplesOfChoice}
+use Rattle.table.specs.Refusals.{sendNo}
 use Rattle.bridge.specs.State.{withPort, answers}
-use Rattle.bridge.specs.Refusals.{sendNo}
 use Rattle.bridge.specs.Chosen.{chosenOf}
 use Rattle.bridge.specs.declared.Bridge.{Bridge}
 use Rattle.bridge.specs.declared.Done.{Done}

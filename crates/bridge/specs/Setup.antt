@@ -1,41 +1,24 @@
 -- Setup.
-use mathlib.Core.Bool.{Bool, true, false, cond, _&&_}
-use mathlib.Core.List.{List, [], _∷_}
+use mathlib.Core.Bool.{Bool, false, cond}
+use mathlib.Core.List.{List}
 use Prim.Native.Nat.{ℕ, _^_}
-use lib.Dec.{ltb, leb}
-use lib.ListN.{take, replicate}
-use Rattle.times.specs.Delay.{longestDelay}
-use Rattle.times.specs.Sent.{longestElapsed}
-use Rattle.times.specs.declared.DelaySetting.{DelaySetting}
-use Rattle.times.specs.declared.DelaySetting.the-variants.{Measured, Fixed}
+use lib.ListN.{replicate}
 use Rattle.frame.specs.declared.Mac.{Mac}
 use Rattle.frame.specs.declared.Precedence.{Precedence}
 use Rattle.port.specs.Record.{emptyPort, emptyClock}
 use Rattle.port.specs.declared.Setting.{Setting}
-use Rattle.bridge.specs.State.{mostPorts, answers}
+use Rattle.table.specs.Table.{mostPorts}
+use Rattle.table.specs.Fits.{setupFits, measuredSetting}
+use Rattle.bridge.specs.State.{answers}
 use Rattle.bridge.specs.declared.Bridge.{Bridge}
 use Rattle.bridge.specs.declared.Done.{Done}
 
--- what Setup takes: a timeout from the least to the greatest; a fixed delay no longer than the longest
-abbrev pub leastTimeout : ℕ
-leastTimeout = 2 ^ 36
+-- the defaults: a timeout of half a second, a backTime of 10 ms
+abbrev pub defaultTimeout : ℕ
+defaultTimeout = 2 ^ 39
 
-abbrev pub greatestTimeout : ℕ
-greatestTimeout = 2 ^ 46
-
-unfoldable pub delayFits : DelaySetting → Bool
-delayFits Measured = true
-delayFits (Fixed delay) = leb delay longestDelay
-
-unfoldable pub delaysFit : List Setting → Bool
-delaysFit [] = true
-delaysFit (s ∷ ss) = delayFits (s .delay) && delaysFit ss
-
--- entries beyond the n ports are not looked at
-unfoldable pub setupFits : ℕ → ℕ → ℕ → List Setting → Bool
-setupFits n timeout back settings =
-    leb 1 n
-    && (leb n mostPorts && (leb leastTimeout timeout && (leb timeout greatestTimeout && (ltb back longestElapsed && delaysFit (take n settings)))))
+abbrev pub defaultBack : ℕ
+defaultBack = 10995116278
 
 -- all links are down and all records empty
 abbrev pub freshOf : ℕ → Mac → Precedence → Bool → ℕ → ℕ → List Setting → Bridge
@@ -58,9 +41,6 @@ noMac = record { 0 = 0; 1 = 0; 2 = 0; 3 = 0; 4 = 0; 5 = 0 }
 
 abbrev pub noPrecedence : Precedence
 noPrecedence = record { priority1 = 0; source = 0; variance = 0; priority2 = 0; clock = 0 }
-
-abbrev pub measuredSetting : Setting
-measuredSetting = record { delay = Measured }
 
 abbrev pub noBridge : Bridge
 noBridge = freshOf 0 noMac noPrecedence false 0 0 (replicate mostPorts measuredSetting)

@@ -3,19 +3,15 @@ use mathlib.Core.Path.{_≡_}
 use mathlib.Core.List.{List}
 use Prim.Native.Nat.{ℕ, _^_, _<_, _≤_}
 use lib.ListN.{length, set}
-use Rattle.times.specs.Sent.{longestElapsed}
+use Rattle.relay.specs.Sent.{longestElapsed}
 use Rattle.port.specs.Lawful.{LawfulPort, LawfulClock}
 use Rattle.port.specs.declared.Port.{Port}
 use Rattle.port.specs.declared.OwnClock.{OwnClock}
-use Rattle.bridge.specs.Table.{portAt}
+use Rattle.table.specs.Table.{portAt, mostPorts}
 use Rattle.bridge.specs.declared.Bridge.{Bridge}
 use Rattle.bridge.specs.declared.Done.{Done}
 use Rattle.bridge.specs.declared.Linked.{Linked}
 use Rattle.bridge.specs.declared.LinkCount.{LinkCount}
-
--- the most ports
-abbrev pub mostPorts : ℕ
-mostPorts = 8
 
 pub record Lawful (b : Bridge) : Type 0 where
   pub records : length (b .ports) ≡ mostPorts

@@ -1,7 +1,4 @@
 // The bridge: a table of eight ports and the station's own clock, handed in and back by value, and the calls on it.
-pub mod checks;
-pub mod table;
-
 ghost use mathlib.Core.Path.{_≡_};
 ghost use Prim.Native.Nat.{_<_};
 ghost use lib.ListN.{length};
@@ -30,10 +27,12 @@ use port::composing;
 use port::hearing;
 use port::ranking;
 use port::telling;
-use times::Drift;
+use relay::Drift;
+use relay::drifting;
+use table::checks;
+use table::records;
 use times::GrandTime;
 use times::LocalTime;
-use times::drifting;
 
 // The refusals that this crate gives by itself.
 const BAD_SETUP: u8 = 1;
@@ -132,7 +131,7 @@ pub fn setup(
     };
     Done {
         answer: BAD_SETUP,
-        next: fresh(0, nobody, least, false, 0, 0, table::measured()),
+        next: fresh(0, nobody, least, false, 0, 0, records::measured()),
     }
 }
 
@@ -149,7 +148,7 @@ pub fn links(b: Bridge, mask: u8) -> Linked
         };
     }
     let ports = b.ports;
-    let after = table::relinked(ports, b.links, mask);
+    let after = records::relinked(ports, b.links, mask);
     let mut next = b;
     next.ports = after;
     next.links = mask;
@@ -239,7 +238,7 @@ pub fn age(b: Bridge, at: u64) -> Done
         };
     }
     let ports = b.ports;
-    let after = table::aged(ports, LocalTime(at), b.timeout);
+    let after = records::aged(ports, LocalTime(at), b.timeout);
     let mut next = b;
     next.ports = after;
     Done {
@@ -255,7 +254,7 @@ pub fn chosen(b: Bridge) -> Choice
 {
     let own = b.own;
     let ports = b.ports;
-    table::best(ranking::own_candidate(b.capable, own), ports)
+    records::best(ranking::own_candidate(b.capable, own), ports)
 }
 
 // The frame that the port at index i sends at t, or why it sends none.
@@ -269,7 +268,7 @@ fn composed(b: Bridge, i: usize, t: LocalTime) -> Sending
     let ports = b.ports;
     let mac = b.mac;
     let port = b.ports[i];
-    let samples = table::samples_of_choice(choice, clock, ports);
+    let samples = records::samples_of_choice(choice, clock, ports);
     composing::composed(choice, samples, mac, b.back, t, port)
 }
 
@@ -317,5 +316,5 @@ pub fn drift(b: Bridge, port: u8) -> Drift
     }
     let clock = b.clock;
     let ports = b.ports;
-    drifting::drift(table::samples_at(port, clock, ports))
+    drifting::drift(records::samples_at(port, clock, ports))
 }

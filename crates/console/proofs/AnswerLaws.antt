@@ -10,27 +10,23 @@ use lib.Ieee.{Float, inf, isNan, Format, binary64, prec, emax, low, round, units
 use lib.IntN.{ℤ}
 use denote.Ref.{RefT, now}
 use borrow.Author.Tests.{eq-eqb, ne-eqb}
-use Rattle.times.specs.Drift.{ppmOf, driftOf}
-use Rattle.times.specs.Sent.{rateBetween}
-use Rattle.times.specs.declared.Samples.{Samples}
-use Rattle.times.specs.declared.Samples.the-variants.{Empty, One, Two}
+use Rattle.samples.specs.declared.Samples.{Samples}
+use Rattle.samples.specs.declared.Samples.the-variants.{Empty, One, Two}
+use Rattle.relay.specs.Drift.{ppmOf, driftOf}
+use Rattle.relay.specs.Sent.{rateBetween}
+use Rattle.relay.specs.declared.Drift.{Drift}
+use Rattle.relay.specs.declared.Drift.the-variants.{PartsPerMillion, Refused as noClock}
 use Rattle.frame.specs.Better.{standingOf, winnerOf, precedenceBytes, lies, pieceBy, betterOf}
 use Rattle.frame.specs.declared.Mac.{Mac}
 use Rattle.frame.specs.declared.Precedence.{Precedence}
 use Rattle.frame.specs.declared.Fields.{Fields}
-use Rattle.bridge.specs.Table.{samplesAt}
-use Rattle.console.specs.Text.{countOf, letterOf}
-use Rattle.console.proofs.SaidLaws.{line-most}
-use Rattle.console.specs.Said.{line1, line2, lineBytes, lineWith, Prints}
-use Rattle.console.specs.Answer.{Answer, says, badText, badLine, doneSays, untouched, setupBy, linkedSays, linksBy, ownBy, receiveBy, ageBy, sentSays, sendBy, driftText, driftBy, readText, readBy, writeBy, pieceOf, betterBytes, betterBy, wantedOf, askedText, callOf, answerOf, Says}
-use Rattle.times.specs.declared.Drift.{Drift}
-use Rattle.times.specs.declared.Drift.the-variants.{PartsPerMillion, Refused as noClock}
 use Rattle.frame.specs.Read.{readOf}
 use Rattle.frame.specs.Write.{unwritten, writtenOf}
 use Rattle.frame.specs.declared.Reading.{Reading}
 use Rattle.frame.specs.declared.Winner.{Winner}
 use Rattle.frame.specs.declared.Winner.the-variants.{Neither, First, Second}
 use Rattle.port.specs.declared.Setting.{Setting}
+use Rattle.table.specs.Table.{samplesAt}
 use Rattle.bridge.specs.Setup.{setupOf}
 use Rattle.bridge.specs.Links.{linksOf}
 use Rattle.bridge.specs.Own.{ownClockOf}
@@ -43,21 +39,25 @@ use Rattle.bridge.specs.declared.Done.{Done}
 use Rattle.bridge.specs.declared.Linked.{Linked}
 use Rattle.bridge.specs.declared.LinkCount.{LinkCount}
 use Rattle.bridge.specs.declared.LinkCount.the-variants.{Refused as beyond, Up}
+use Rattle.words.specs.Text.{countOf, letterOf}
+use Rattle.words.specs.Said.{line1, line2, lineBytes, lineWith, Prints}
+use Rattle.words.specs.declared.Number.{Number}
+use Rattle.words.specs.declared.Number.the-variants.{Is as number, Bad as noNumber}
+use Rattle.words.specs.declared.Octet.{Octet}
+use Rattle.words.specs.declared.Octet.the-variants.{Is as octet, Bad as noOctet}
+use Rattle.words.specs.declared.Size.{Size}
+use Rattle.words.specs.declared.Size.the-variants.{Is as size, Bad as noSize}
+use Rattle.words.specs.declared.Flag.{Flag}
+use Rattle.words.specs.declared.Flag.the-variants.{Is as flag, Bad as noFlag}
+use Rattle.words.specs.declared.Address.{Address}
+use Rattle.words.specs.declared.Address.the-variants.{Is as address, Bad as noAddress}
+use Rattle.words.specs.declared.Rank.{Rank}
+use Rattle.words.specs.declared.Rank.the-variants.{Is as rank, Bad as noRank}
+use Rattle.words.specs.declared.Parts.{Parts}
+use Rattle.words.specs.declared.Parts.the-variants.{Are as parts, Bad as noParts}
+use Rattle.console.specs.Answer.{Answer, says, badText, badLine, doneSays, untouched, setupBy, linkedSays, linksBy, ownBy, receiveBy, ageBy, sentSays, sendBy, driftText, driftBy, readText, readBy, writeBy, pieceOf, betterBytes, betterBy, wantedOf, askedText, callOf, answerOf, Says}
 use Rattle.console.specs.declared.Answered.{Answered}
-use Rattle.console.specs.declared.Number.{Number}
-use Rattle.console.specs.declared.Number.the-variants.{Is as number, Bad as noNumber}
-use Rattle.console.specs.declared.Octet.{Octet}
-use Rattle.console.specs.declared.Octet.the-variants.{Is as octet, Bad as noOctet}
-use Rattle.console.specs.declared.Size.{Size}
-use Rattle.console.specs.declared.Size.the-variants.{Is as size, Bad as noSize}
-use Rattle.console.specs.declared.Flag.{Flag}
-use Rattle.console.specs.declared.Flag.the-variants.{Is as flag, Bad as noFlag}
-use Rattle.console.specs.declared.Address.{Address}
-use Rattle.console.specs.declared.Address.the-variants.{Is as address, Bad as noAddress}
-use Rattle.console.specs.declared.Rank.{Rank}
-use Rattle.console.specs.declared.Rank.the-variants.{Is as rank, Bad as noRank}
-use Rattle.console.specs.declared.Parts.{Parts}
-use Rattle.console.specs.declared.Parts.the-variants.{Are as parts, Bad as noParts}
+use Rattle.words.proofs.SaidLaws.{line-most}
 
 -- ---- what is promised of one text is promised of its equal
 

@@ -1,4 +1,1 @@
-pub mod TextLaws
-pub mod ValueLaws
-pub mod SaidLaws
 pub mod AnswerLaws

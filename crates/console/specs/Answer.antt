@@ -7,8 +7,8 @@ use lib.ListN.{length, take, drop, replicate}
 use lib.Dec.{eqb}
 use lib.Ieee.{toBits, binary64}
 use Rattle.numbers.specs.Digits.{digits}
-use Rattle.times.specs.declared.Drift.{Drift}
-use Rattle.times.specs.declared.Drift.the-variants.{NoReading, PartsPerMillion, Refused as noClock}
+use Rattle.relay.specs.declared.Drift.{Drift}
+use Rattle.relay.specs.declared.Drift.the-variants.{NoReading, PartsPerMillion, Refused as noClock}
 use Rattle.frame.specs.Read.{readOf}
 use Rattle.frame.specs.Write.{unwritten, writtenOf}
 use Rattle.frame.specs.Better.{standingOf, winnerOf, precedenceStart, precedenceBytes}
@@ -20,7 +20,7 @@ use Rattle.port.specs.declared.Choice.{Choice}
 use Rattle.port.specs.declared.Choice.the-variants.{Nothing, Clock}
 use Rattle.port.specs.declared.Setting.{Setting}
 use Rattle.bridge.specs.State.{Lawful}
-use Rattle.bridge.specs.Setup.{setupOf}
+use Rattle.bridge.specs.Setup.{defaultTimeout, defaultBack, setupOf}
 use Rattle.bridge.specs.Links.{linksOf}
 use Rattle.bridge.specs.Own.{ownClockOf}
 use Rattle.bridge.specs.Receive.{receiveOf}
@@ -32,24 +32,24 @@ use Rattle.bridge.specs.declared.Bridge.{Bridge}
 use Rattle.bridge.specs.declared.Done.{Done}
 use Rattle.bridge.specs.declared.LinkCount.{LinkCount}
 use Rattle.bridge.specs.declared.LinkCount.the-variants.{Refused as beyond, Up}
-use Rattle.console.specs.Text.{countOf, fieldOf, letterOf}
-use Rattle.console.specs.Value.{mostBytes, numberIn, octetBy, lengthBy, numberOr, flagIn, givenFrom, settingsFrom, bytesIn, contentOf, addressIn, rankIn, partsOf}
-use Rattle.console.specs.Said.{line1, line2, lineBytes, lineWith, fieldsLine, Prints}
+use Rattle.words.specs.Text.{countOf, fieldOf, letterOf}
+use Rattle.words.specs.Value.{mostBytes, numberIn, octetBy, lengthBy, numberOr, flagIn, givenFrom, settingsFrom, bytesIn, contentOf, addressIn, rankIn, partsOf}
+use Rattle.words.specs.Said.{line1, line2, lineBytes, lineWith, fieldsLine, Prints}
+use Rattle.words.specs.declared.Number.{Number}
+use Rattle.words.specs.declared.Number.the-variants.{Is as number, Bad as noNumber}
+use Rattle.words.specs.declared.Octet.{Octet}
+use Rattle.words.specs.declared.Octet.the-variants.{Is as octet, Bad as noOctet}
+use Rattle.words.specs.declared.Size.{Size}
+use Rattle.words.specs.declared.Size.the-variants.{Is as size, Bad as noSize}
+use Rattle.words.specs.declared.Flag.{Flag}
+use Rattle.words.specs.declared.Flag.the-variants.{Is as flag, Bad as noFlag}
+use Rattle.words.specs.declared.Address.{Address}
+use Rattle.words.specs.declared.Address.the-variants.{Is as address, Bad as noAddress}
+use Rattle.words.specs.declared.Rank.{Rank}
+use Rattle.words.specs.declared.Rank.the-variants.{Is as rank, Bad as noRank}
+use Rattle.words.specs.declared.Parts.{Parts}
+use Rattle.words.specs.declared.Parts.the-variants.{Are as parts, Bad as noParts}
 use Rattle.console.specs.declared.Answered.{Answered}
-use Rattle.console.specs.declared.Number.{Number}
-use Rattle.console.specs.declared.Number.the-variants.{Is as number, Bad as noNumber}
-use Rattle.console.specs.declared.Octet.{Octet}
-use Rattle.console.specs.declared.Octet.the-variants.{Is as octet, Bad as noOctet}
-use Rattle.console.specs.declared.Size.{Size}
-use Rattle.console.specs.declared.Size.the-variants.{Is as size, Bad as noSize}
-use Rattle.console.specs.declared.Flag.{Flag}
-use Rattle.console.specs.declared.Flag.the-variants.{Is as flag, Bad as noFlag}
-use Rattle.console.specs.declared.Address.{Address}
-use Rattle.console.specs.declared.Address.the-variants.{Is as address, Bad as noAddress}
-use Rattle.console.specs.declared.Rank.{Rank}
-use Rattle.console.specs.declared.Rank.the-variants.{Is as rank, Bad as noRank}
-use Rattle.console.specs.declared.Parts.{Parts}
-use Rattle.console.specs.declared.Parts.the-variants.{Are as parts, Bad as noParts}
 
 pub record Answer : Type 0 where
   pub next : Bridge
@@ -74,12 +74,6 @@ abbrev pub untouched : ℕ → List ℕ
 untouched n = take n (replicate mostBytes 0xA5)
 
 -- ---- the lines that change the state
-
-abbrev pub defaultTimeout : ℕ
-defaultTimeout = 549755813888
-
-abbrev pub defaultBack : ℕ
-defaultBack = 10995116278
 
 unfoldable pub setupBy : Bridge → Octet → Address → Rank → Flag → Number → Number → Bool → List Setting → Answer
 setupBy b noOctet m p f t k g ds = badLine b

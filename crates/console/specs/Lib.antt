@@ -1,4 +1,1 @@
-pub mod Text
-pub mod Value
-pub mod Said
 pub mod Answer

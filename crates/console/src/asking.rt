@@ -1,6 +1,5 @@
 // The lines whose call leaves the state as it is.
 // Above each stands the line; its fields are numbered from the letter, which is 0.
-ghost use mathlib.Core.Path.{_≡_};
 ghost use mathlib.Core.Bool.{not};
 ghost use Prim.Native.Nat.{_≤_};
 ghost use lib.ListN.{length};
@@ -9,20 +8,20 @@ ghost use lib.Ieee.{isNan, toBits, binary64};
 ghost use Rattle.numbers.specs.Digits.{digits};
 ghost use Rattle.bridge.specs.State.{Lawful};
 ghost use Rattle.bridge.specs.Chosen.{chosenOf};
-ghost use Rattle.console.specs.Said.{longest, lineWith, Prints};
+ghost use Rattle.words.specs.Said.{longest, lineWith, Prints};
 ghost use Rattle.console.specs.Answer.{chosenText, driftLine, readLine, writeLine, betterLine};
-use crate::Octet;
-use crate::Parts;
-use crate::Size;
-use crate::printing;
-use crate::reading;
 use bridge::Bridge;
 use frame::Reading;
 use frame::choosing;
 use frame::decoding;
 use frame::encoding;
 use port::Choice;
-use times::Drift;
+use relay::Drift;
+use words::Octet;
+use words::Parts;
+use words::Size;
+use words::printing;
+use words::reading;
 
 // The refusal of a port that there isn't.
 const OUT_OF_RANGE: u8 = 2;

@@ -3,21 +3,21 @@
 ghost use Prim.Native.Nat.{_≤_};
 ghost use lib.ListN.{length};
 ghost use Rattle.bridge.specs.State.{Lawful};
-ghost use Rattle.console.specs.Said.{longest};
+ghost use Rattle.words.specs.Said.{longest};
 ghost use Rattle.console.specs.Answer.{badLine, doneSays, setupLine, linksLine, ownLine, receiveLine, ageLine, sendLine, Says};
-use crate::Address;
 use crate::Answered;
-use crate::Flag;
-use crate::Number;
-use crate::Octet;
-use crate::Rank;
-use crate::Size;
 use crate::asking;
-use crate::printing;
-use crate::reading;
 use bridge::Bridge;
 use bridge::Done;
 use bridge::LinkCount;
+use words::Address;
+use words::Flag;
+use words::Number;
+use words::Octet;
+use words::Rank;
+use words::Size;
+use words::printing;
+use words::reading;
 
 // The refusal of a mask with a bit beyond the ports.
 const OUT_OF_RANGE: u8 = 2;

@@ -1,98 +1,24 @@
 // One line of text to one call of the bridge, and its answer to one line of text.
 pub mod asking;
 pub mod changing;
-pub mod cutting;
-pub mod printing;
-pub mod reading;
 
 ghost use mathlib.Core.Path.{_≡_};
 ghost use Prim.Native.Nat.{_≤_};
 ghost use lib.ListN.{length};
 ghost use Rattle.bridge.specs.State.{Lawful};
-ghost use Rattle.console.specs.Said.{longest, Prints};
+ghost use Rattle.words.specs.Said.{longest, Prints};
 ghost use Rattle.console.specs.Answer.{wantedOf, askedText, answerOf, Says};
 use bridge::Bridge;
-use frame::Fields;
-use frame::Mac;
-use frame::Precedence;
-use times::DelaySetting;
-use times::ErrorTime;
-use times::GrandTime;
-use times::LocalTime;
+use words::cutting;
+use words::printing;
 
 // The longest line that can be one: B with two frames of 128 bytes.
 pub const LONGEST_LINE: usize = 515;
-
-// The longest line that is printed, its newline with it: an answer and 128 bytes.
-pub const LONGEST_ANSWER: usize = 260;
-
-// The most bytes that a field has, or that an output takes.
-pub const MOST_BYTES: usize = 128;
 
 // The state after a line, and the length of what is printed for it.
 pub struct Answered {
     pub next: Bridge,
     pub len: usize,
-}
-
-// A field read as a number.
-pub enum Number {
-    Is(u64),
-    Bad,
-}
-
-// A field read as a number below 256.
-pub enum Octet {
-    Is(u8),
-    Bad,
-}
-
-// A field read as a number of bytes.
-pub enum Size {
-    Is(usize),
-    Bad,
-}
-
-// A field read as 0 or 1.
-pub enum Flag {
-    Is(bool),
-    Bad,
-}
-
-// A field read as a station's address.
-pub enum Address {
-    Is(Mac),
-    Bad,
-}
-
-// A field read as a precedence.
-pub enum Rank {
-    Is(Precedence),
-    Bad,
-}
-
-// A field read as a port's delay.
-pub enum Wait {
-    Is(DelaySetting),
-    Bad,
-}
-
-// A field read as an errorTime.
-pub enum Error {
-    Is(ErrorTime),
-    Bad,
-}
-
-// The fields that a frame's times stand in.
-pub enum Moments {
-    Are(GrandTime, LocalTime, LocalTime, LocalTime),
-    Bad,
-}
-
-// The fields that a frame stands in.
-pub enum Parts {
-    Are(Fields),
-    Bad,
 }
 
 // How many fields a line with this letter has; 0 where no call has the letter.

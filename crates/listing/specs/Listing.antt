@@ -2,20 +2,22 @@
 use mathlib.Core.Path.{_≡_}
 use mathlib.Core.Bool.{false, cond}
 use mathlib.Core.List.{List}
-use Prim.Native.Nat.{ℕ, _^_}
+use Prim.Native.Nat.{ℕ}
 use lib.Dec.{eqb}
 use lib.ListN.{length, getD, drop, replicate}
 use Rattle.numbers.specs.Digits.{numberAt}
 use Rattle.port.specs.declared.Choice.{Choice}
 use Rattle.port.specs.declared.Choice.the-variants.{Nothing, Clock}
-use Rattle.hexline.specs.Line.{lineDigits}
-use Rattle.bridge.specs.State.{mostPorts, Lawful}
-use Rattle.bridge.specs.Setup.{noMac, noPrecedence, measuredSetting, setupOf}
+use Rattle.table.specs.Table.{mostPorts}
+use Rattle.table.specs.Fits.{measuredSetting}
+use Rattle.bridge.specs.State.{Lawful}
+use Rattle.bridge.specs.Setup.{defaultTimeout, defaultBack, noMac, noPrecedence, setupOf}
 use Rattle.bridge.specs.Links.{linksOf}
 use Rattle.bridge.specs.Chosen.{chosenOf}
 use Rattle.bridge.specs.Receive.{receiveOf}
 use Rattle.bridge.specs.declared.Bridge.{Bridge}
 use Rattle.bridge.specs.declared.Done.{Done}
+use Rattle.hexline.specs.Line.{lineDigits}
 use Rattle.listing.specs.declared.Listed.{Listed}
 use Rattle.listing.specs.declared.Session.{Session}
 
@@ -33,12 +35,6 @@ listingPorts = 2
 
 abbrev pub bothLinked : ℕ
 bothLinked = 3
-
-abbrev pub defaultTimeout : ℕ
-defaultTimeout = 2 ^ 39
-
-abbrev pub defaultBack : ℕ
-defaultBack = 10995116278
 
 unfoldable pub startOf : Bridge
 startOf =

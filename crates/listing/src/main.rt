@@ -71,7 +71,7 @@ fn start() -> Bridge
         false,
         bridge::DEFAULT_TIMEOUT,
         bridge::DEFAULT_BACK,
-        bridge::table::measured(),
+        table::records::measured(),
     );
     let down = first.next;
     let linked = bridge::links(down, BOTH_LINKED);

@@ -9,34 +9,28 @@ use borrow.Author.Tests.{lt-ltb, le-ltb, ltb-true, ltb-false, eq-eqb, ne-eqb}
 use lib.Dec.{ltb, eqb}
 use lib.ListN.{length}
 use Rattle.numbers.specs.Table.{Held}
-use Rattle.numbers.proofs.Pairs.{first-less, first-more, first-same}
-use Rattle.numbers.proofs.Places.{Bytes}
-use Rattle.numbers.proofs.Table.{held-at, held-parted}
 use Rattle.times.specs.Times.{circle, sinceOf, InRange, nextCount}
-use Rattle.times.specs.Keep.{LawfulSamples, keptOf}
 use Rattle.times.specs.Hop.{lastHop}
-use Rattle.times.specs.Delay.{linkDelayOf}
-use Rattle.times.specs.Rate.{neighbourRateOf}
-use Rattle.times.proofs.KeepLaws.{kept-lawful}
-use Rattle.times.proofs.SentLaws.{sent-range}
 use Rattle.times.specs.declared.LocalTime.{LocalTime}
 use Rattle.times.specs.declared.GrandTime.{GrandTime}
-use Rattle.times.specs.declared.Sample.{Sample}
-use Rattle.times.specs.declared.Samples.{Samples}
-use Rattle.times.specs.declared.Samples.the-variants.{Empty, One, Two}
-use Rattle.times.specs.declared.Stamps.{Stamps}
-use Rattle.times.specs.declared.Stamps.the-variants.{Unset, Set}
-use Rattle.times.specs.declared.Sent.{Sent}
-use Rattle.times.specs.declared.Sent.the-variants.{At, Few, Late, Beyond}
-use Rattle.times.specs.Sent.{sentOf}
-use Rattle.times.specs.declared.DelaySetting.{DelaySetting}
-use Rattle.times.specs.declared.Delay.{Delay}
-use Rattle.times.specs.declared.Delay.the-variants.{Is, TooLong}
+use Rattle.samples.specs.Keep.{LawfulSamples, keptOf}
+use Rattle.samples.specs.Rate.{neighbourRateOf}
+use Rattle.samples.specs.declared.Sample.{Sample}
+use Rattle.samples.specs.declared.Samples.{Samples}
+use Rattle.samples.specs.declared.Samples.the-variants.{Empty, One, Two}
+use Rattle.samples.specs.declared.Stamps.{Stamps}
+use Rattle.samples.specs.declared.Stamps.the-variants.{Unset, Set}
+use Rattle.relay.specs.Delay.{linkDelayOf}
+use Rattle.relay.specs.declared.Sent.{Sent}
+use Rattle.relay.specs.declared.Sent.the-variants.{At, Few, Late, Beyond}
+use Rattle.relay.specs.Sent.{sentOf}
+use Rattle.relay.specs.declared.DelaySetting.{DelaySetting}
+use Rattle.relay.specs.declared.Delay.{Delay}
+use Rattle.relay.specs.declared.Delay.the-variants.{Is, TooLong}
 use Rattle.frame.specs.Frame.{frameLength, widths}
 use Rattle.frame.specs.Read.{rowsOf, readOf}
 use Rattle.frame.specs.Write.{unwritten}
 use Rattle.frame.specs.declared.Reading.the-variants as Frames
-use Rattle.frame.proofs.FrameLaws.{accepted, reading, unrefused}
 use Rattle.frame.specs.Precedence.{keyOf}
 use Rattle.frame.specs.declared.Precedence.{Precedence}
 use Rattle.frame.specs.declared.Fields.{Fields}
@@ -59,6 +53,12 @@ use Rattle.port.specs.declared.Port.{Port}
 use Rattle.port.specs.declared.OwnClock.{OwnClock}
 use Rattle.port.specs.declared.Received.{Received}
 use Rattle.port.specs.declared.Told.{Told}
+use Rattle.numbers.proofs.Pairs.{first-less, first-more, first-same}
+use Rattle.numbers.proofs.Places.{Bytes}
+use Rattle.numbers.proofs.Table.{held-at, held-parted}
+use Rattle.samples.proofs.KeepLaws.{kept-lawful}
+use Rattle.relay.proofs.SentLaws.{sent-range}
+use Rattle.frame.proofs.FrameLaws.{accepted, reading, unrefused}
 use Rattle.port.proofs.Choices.{if-true, if-false, if-when}
 
 -- ---- ageing

@@ -1,9 +1,9 @@
 -- What holds of every record that a call hands back: times are in range, and samples are such as step 4 keeps.
 use Prim.Native.Nat.{_<_}
 use Rattle.times.specs.Times.{circle, InRange}
-use Rattle.times.specs.Keep.{LawfulSamples}
-use Rattle.times.specs.declared.Stamps.{Stamps}
-use Rattle.times.specs.declared.Stamps.the-variants.{Unset, Set}
+use Rattle.samples.specs.Keep.{LawfulSamples}
+use Rattle.samples.specs.declared.Stamps.{Stamps}
+use Rattle.samples.specs.declared.Stamps.the-variants.{Unset, Set}
 use Rattle.frame.specs.declared.Fields.{Fields}
 use Rattle.port.specs.declared.Last.{Last}
 use Rattle.port.specs.declared.Last.the-variants.{Never, Was}

@@ -3,11 +3,11 @@ use Prim.Native.Nat.{ℕ}
 use mathlib.Core.Bool.{true, cond}
 use lib.Dec.{eqb}
 use Rattle.times.specs.Times.{nextCount}
-use Rattle.times.specs.Keep.{keptOf}
 use Rattle.times.specs.declared.LocalTime.{LocalTime}
 use Rattle.times.specs.declared.GrandTime.{GrandTime}
-use Rattle.times.specs.declared.Sample.{Sample}
-use Rattle.times.specs.declared.Samples.{Samples}
+use Rattle.samples.specs.Keep.{keptOf}
+use Rattle.samples.specs.declared.Sample.{Sample}
+use Rattle.samples.specs.declared.Samples.{Samples}
 use Rattle.port.specs.declared.Last.{Last}
 use Rattle.port.specs.declared.Last.the-variants.{Never, Was}
 use Rattle.port.specs.declared.OwnClock.{OwnClock}

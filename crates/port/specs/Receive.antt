@@ -3,16 +3,16 @@ use Prim.Native.Nat.{ℕ}
 use mathlib.Core.Bool.{Bool, false, cond}
 use lib.Dec.{eqb}
 use Rattle.times.specs.Times.{earlierBy, nextCount}
-use Rattle.times.specs.Rate.{neighbourRateOf}
-use Rattle.times.specs.Delay.{linkDelayOf}
 use Rattle.times.specs.Hop.{lastHop, hopOf}
-use Rattle.times.specs.Keep.{keptOf}
 use Rattle.times.specs.declared.LocalTime.{LocalTime}
-use Rattle.times.specs.declared.Sample.{Sample}
-use Rattle.times.specs.declared.Stamps.the-variants.{Set}
-use Rattle.times.specs.declared.DelaySetting.{DelaySetting}
-use Rattle.times.specs.declared.Delay.{Delay}
-use Rattle.times.specs.declared.Delay.the-variants.{Is, TooLong}
+use Rattle.samples.specs.Rate.{neighbourRateOf}
+use Rattle.samples.specs.Keep.{keptOf}
+use Rattle.samples.specs.declared.Sample.{Sample}
+use Rattle.samples.specs.declared.Stamps.the-variants.{Set}
+use Rattle.relay.specs.Delay.{linkDelayOf}
+use Rattle.relay.specs.declared.DelaySetting.{DelaySetting}
+use Rattle.relay.specs.declared.Delay.{Delay}
+use Rattle.relay.specs.declared.Delay.the-variants.{Is, TooLong}
 use Rattle.frame.specs.Precedence.{precedenceOf}
 use Rattle.frame.specs.declared.Precedence.{Precedence}
 use Rattle.frame.specs.declared.Fields.{Fields}

@@ -4,8 +4,8 @@ use mathlib.Core.Bool.{cond}
 use lib.Dec.{ltb}
 use Rattle.times.specs.Times.{sinceOf, nextCount}
 use Rattle.times.specs.declared.LocalTime.{LocalTime}
-use Rattle.times.specs.declared.Samples.the-variants.{Empty}
-use Rattle.times.specs.declared.Stamps.the-variants.{Unset}
+use Rattle.samples.specs.declared.Samples.the-variants.{Empty}
+use Rattle.samples.specs.declared.Stamps.the-variants.{Unset}
 use Rattle.port.specs.declared.Last.the-variants.{Never}
 use Rattle.port.specs.declared.Heard.{Heard}
 use Rattle.port.specs.declared.Heard.the-variants.{Silent, Said}

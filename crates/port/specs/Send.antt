@@ -1,16 +1,16 @@
 -- Send, on one record: the frame for the chosen clock, or why there is none.
 use Prim.Native.Nat.{ℕ}
 use mathlib.Core.List.{List}
-use Rattle.frame.specs.Write.{unwritten, writtenOf}
-use Rattle.times.specs.Sent.{sentOf, sentNo}
 use Rattle.times.specs.declared.LocalTime.{LocalTime}
 use Rattle.times.specs.declared.GrandTime.{GrandTime}
 use Rattle.times.specs.declared.ErrorTime.{ErrorTime}
-use Rattle.times.specs.declared.Samples.{Samples}
-use Rattle.times.specs.declared.Stamps.{Stamps}
-use Rattle.times.specs.declared.Stamps.the-variants.{Unset, Set}
-use Rattle.times.specs.declared.Sent.{Sent}
-use Rattle.times.specs.declared.Sent.the-variants.{At, Few, Late, Beyond}
+use Rattle.samples.specs.declared.Samples.{Samples}
+use Rattle.samples.specs.declared.Stamps.{Stamps}
+use Rattle.samples.specs.declared.Stamps.the-variants.{Unset, Set}
+use Rattle.relay.specs.Sent.{sentOf, sentNo}
+use Rattle.relay.specs.declared.Sent.{Sent}
+use Rattle.relay.specs.declared.Sent.the-variants.{At, Few, Late, Beyond}
+use Rattle.frame.specs.Write.{unwritten, writtenOf}
 use Rattle.frame.specs.declared.Mac.{Mac}
 use Rattle.frame.specs.declared.Precedence.{Precedence}
 use Rattle.frame.specs.declared.Fields.{Fields}

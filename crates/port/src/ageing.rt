@@ -5,9 +5,9 @@ use crate::Heard;
 use crate::Last;
 use crate::OwnClock;
 use crate::Port;
+use samples::Samples;
+use samples::Stamps;
 use times::LocalTime;
-use times::Samples;
-use times::Stamps;
 use times::local;
 
 // A record of which nothing is stored.

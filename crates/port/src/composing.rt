@@ -2,8 +2,8 @@
 ghost use mathlib.Core.Path.{_≡_};
 ghost use Prim.Native.Nat.{_<_};
 ghost use lib.ListN.{length};
-ghost use Rattle.times.specs.Keep.{LawfulSamples};
-ghost use Rattle.times.specs.Sent.{longestElapsed};
+ghost use Rattle.samples.specs.Keep.{LawfulSamples};
+ghost use Rattle.relay.specs.Sent.{longestElapsed};
 ghost use Rattle.port.specs.Send.{echoTx, echoRx, frameOf, sendingOf, deliveredNo, deliveredBytes};
 use crate::Choice;
 use crate::Port;
@@ -12,13 +12,13 @@ use frame::Fields;
 use frame::Mac;
 use frame::Precedence;
 use frame::encoding;
+use relay::Sent;
+use relay::sending;
+use samples::Samples;
+use samples::Stamps;
 use times::ErrorTime;
 use times::GrandTime;
 use times::LocalTime;
-use times::Samples;
-use times::Sent;
-use times::Stamps;
-use times::sending;
 
 // The refusals of a send that has a port, a link and room.
 const NO_CLOCK: u8 = 10;

@@ -11,14 +11,14 @@ use crate::Received;
 use frame::Fields;
 use frame::Precedence;
 use frame::ranking;
-use times::Delay;
-use times::DelaySetting;
+use relay::Delay;
+use relay::DelaySetting;
+use relay::delays;
+use samples::Sample;
+use samples::Stamps;
+use samples::keeping;
 use times::LocalTime;
-use times::Sample;
-use times::Stamps;
-use times::delays;
 use times::hops;
-use times::keeping;
 use times::local;
 
 // The refusals of a frame that was read.

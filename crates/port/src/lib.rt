@@ -7,10 +7,10 @@ pub mod telling;
 
 use frame::Fields;
 use frame::Precedence;
-use times::DelaySetting;
+use relay::DelaySetting;
+use samples::Samples;
+use samples::Stamps;
 use times::LocalTime;
-use times::Samples;
-use times::Stamps;
 
 // The frameCount and the arrival of the preceding frame, the next p.
 pub enum Last {

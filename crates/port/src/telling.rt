@@ -1,17 +1,17 @@
 // The own clock: what a reading of it is answered with, and what is stored of it.
 ghost use mathlib.Core.Path.{_≡_};
 ghost use Rattle.times.specs.Times.{InRange};
-ghost use Rattle.times.specs.Keep.{LawfulSamples};
+ghost use Rattle.samples.specs.Keep.{LawfulSamples};
 ghost use Rattle.port.specs.Own.{storedAs, toldOf};
 use crate::Last;
 use crate::OwnClock;
 use crate::Told;
+use samples::Sample;
+use samples::Samples;
+use samples::keeping;
 use times::ErrorTime;
 use times::GrandTime;
 use times::LocalTime;
-use times::Sample;
-use times::Samples;
-use times::keeping;
 use times::local;
 
 // The refusal of a reading that does not follow on the preceding one.

@@ -3,7 +3,7 @@ ghost use mathlib.Core.Path.{_≡_};
 ghost use Prim.Native.Nat.{_+_, _≤_};
 ghost use lib.ListN.{length};
 ghost use Rattle.bridge.specs.State.{Lawful};
-ghost use Rattle.console.specs.Said.{longest};
+ghost use Rattle.words.specs.Said.{longest};
 ghost use Rattle.replay.specs.Replay.{keptBytes, Stopped, Ready};
 use bridge::Bridge;
 use frame::Mac;
@@ -42,7 +42,7 @@ fn start() -> Bridge
         priority2: 0,
         clock: 0,
     };
-    let refused = bridge::setup(0, nobody, least, false, 0, 0, bridge::table::measured());
+    let refused = bridge::setup(0, nobody, least, false, 0, 0, table::records::measured());
     refused.next
 }
 
@@ -73,7 +73,7 @@ fn room(out: &[u8], filled: usize) -> usize
     requires { ⌜ (filled ≤ length (now out)) × (longest ≤ length (now out)) ⌝ }
     ensures { λ r. ⌜ r + longest ≤ length (now (out .entry)) ⌝ }
 {
-    if filled <= out.len() - console::LONGEST_ANSWER {
+    if filled <= out.len() - words::LONGEST_ANSWER {
         return filled;
     }
     io::write_all(STDOUT_FILENO, &out[..filled]);
@@ -94,7 +94,7 @@ fn fed(s: Session, bytes: &[u8], out: &mut [u8]) -> Session
     let mut len = first.len;
     while at < bytes.len() {
         let from = room(out, filled);
-        let end = from + console::LONGEST_ANSWER;
+        let end = from + words::LONGEST_ANSWER;
         let answered = console::answer_line(b, &text[..len], &mut out[from..end]);
         b = answered.next;
         filled = from + answered.len;

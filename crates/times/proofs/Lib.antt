@@ -1,10 +1,4 @@
 pub mod TestLaws
 pub mod TimeLaws
-pub mod RateLaws
-pub mod DelayLaws
+pub mod RiseLaws
 pub mod HopLaws
-pub mod KeepLaws
-pub mod SentLaws
-pub mod Bound
-pub mod Edges
-pub mod PpmLaws

@@ -1,11 +1,15 @@
 -- Times: the circle of local time, grand time as one number, errorTime as a signed number, the count of frames.
+use mathlib.Core.Bool.{cond, _&&_}
 use Prim.Native.Nat.{ℕ, _+_, _-_, _*_, _/_, _%_, _^_, _<_}
+use lib.Dec.{leb, ltb}
 use lib.IntN.{ℤ}
 use mir.Syntax.{w32}
 use mir.Val.{toZ}
 use Rattle.times.specs.declared.LocalTime.{LocalTime}
 use Rattle.times.specs.declared.GrandTime.{GrandTime}
 use Rattle.times.specs.declared.ErrorTime.{ErrorTime}
+use Rattle.times.specs.declared.Rise.{Rise}
+use Rattle.times.specs.declared.Rise.the-variants.{By, Far}
 
 -- the units of local time's circle
 abbrev pub circle : ℕ
@@ -39,6 +43,10 @@ grandOf n = record { 0 = n / second; 1 = n % second }
 pub record InRange (g : GrandTime) : Type 0 where
   pub seconds : g .0 < second
   pub fraction : g .1 < second
+
+-- a rise from a to b that is no less than 0 and below a second
+unfoldable pub riseWithin : ℕ → ℕ → Rise
+riseWithin a b = cond (leb a b && ltb (b - a) second) (By (b - a)) Far
 
 -- errorTime as a signed number
 abbrev pub errorOf : ErrorTime → ℤ

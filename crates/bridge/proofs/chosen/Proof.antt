@@ -2,7 +2,8 @@
 use borrow.Author.Needs.{needs}
 use mathlib.Core.Path.{ap, _∙_}
 use Rattle.port.specs.declared.Choice.{Choice}
-use Rattle.bridge.specs.Chosen.{candidatesFrom, bestOf, chosenOf}
+use Rattle.table.specs.Table.{candidatesFrom, bestOf}
+use Rattle.bridge.specs.Chosen.{chosenOf}
 use Rattle.bridge.proofs.chosen.Statement.{statement}
 use Rattle.bridge.proofs.chosen.Tie as tie
 

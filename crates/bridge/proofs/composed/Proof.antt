@@ -2,12 +2,13 @@
 use borrow.Author.Needs.{needs}
 use mathlib.Core.Path.{sym, ap, _∙_, subst}
 use Prim.Native.Nat.{_≤_}
-use Rattle.times.specs.Keep.{LawfulSamples}
+use Rattle.samples.specs.Keep.{LawfulSamples}
 use Rattle.port.specs.Send.{sendingOf}
 use Rattle.port.specs.declared.Choice.{Choice}
-use Rattle.bridge.specs.Table.{portAt, numberOf, samplesOfChoice}
+use Rattle.table.specs.Table.{portAt, numberOf, samplesOfChoice}
 use Rattle.bridge.specs.Send.{composedOf}
-use Rattle.bridge.proofs.TableLaws.{chosen-lawful, chosen-number}
+use Rattle.table.proofs.TableLaws.{chosen-lawful}
+use Rattle.bridge.proofs.StateLaws.{chosen-number}
 use Rattle.bridge.proofs.composed.Statement.{statement}
 use Rattle.bridge.proofs.composed.Tie as tie
 

@@ -1,9 +1,9 @@
 -- By whether there is such a port, and by its samples.
 use borrow.Author.Needs.{needs}
 use mathlib.Core.Path.{sym, ap, _∙_, subst}
-use Rattle.times.specs.Keep.{LawfulSamples}
-use Rattle.times.specs.Drift.{driftOf}
-use Rattle.bridge.proofs.TableLaws.{samples-lawful}
+use Rattle.samples.specs.Keep.{LawfulSamples}
+use Rattle.relay.specs.Drift.{driftOf}
+use Rattle.table.proofs.TableLaws.{samples-lawful}
 use Rattle.bridge.proofs.StateLaws.{drift-refused, drift-done}
 use Rattle.bridge.proofs.drift.Statement.{statement}
 use Rattle.bridge.proofs.drift.Tie as tie

@@ -4,7 +4,7 @@ use mathlib.Core.Path.{ap, _∙_}
 use Prim.Native.Nat.{ℕ}
 use Rattle.port.specs.Choose.{chosenHop}
 use Rattle.port.specs.Receive.{receivedOf}
-use Rattle.bridge.specs.Table.{portAt}
+use Rattle.table.specs.Table.{portAt}
 use Rattle.bridge.specs.Receive.{receivedAs, delayAt, heardOf}
 use Rattle.bridge.proofs.heard.Statement.{statement}
 use Rattle.bridge.proofs.heard.Tie as tie

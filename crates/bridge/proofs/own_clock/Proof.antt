@@ -1,7 +1,7 @@
 -- By the refusals over numbers, then by the own clock's record.
 use borrow.Author.Needs.{needs}
 use mathlib.Core.Path.{sym, _∙_}
-use Rattle.bridge.proofs.CheckLaws.{own-ready}
+use Rattle.table.proofs.CheckLaws.{own-ready}
 use Rattle.bridge.proofs.StateLaws.{own-refused, own-done}
 use Rattle.bridge.proofs.Keeps.{out, own-lawful}
 use Rattle.bridge.proofs.own_clock.Statement.{statement}

@@ -4,7 +4,7 @@ use native.Mathlib.Omega.{arith}
 use mathlib.Core.Path.{sym, _∙_}
 use Rattle.numbers.proofs.Places.{Bytes}
 use Rattle.port.proofs.PortLaws.{read-in-range}
-use Rattle.bridge.proofs.CheckLaws.{port-ready}
+use Rattle.table.proofs.CheckLaws.{port-ready}
 use Rattle.bridge.proofs.StateLaws.{receive-refused, receive-read}
 use Rattle.bridge.proofs.Keeps.{out, receive-lawful}
 use Rattle.bridge.proofs.receive.Statement.{statement}

@@ -8,7 +8,7 @@ use Rattle.frame.specs.Frame.{frameLength}
 use Rattle.port.specs.Send.{deliveredNo, deliveredBytes}
 use Rattle.port.specs.declared.Sending.{Sending}
 use Rattle.bridge.specs.State.{Lawful, answers}
-use Rattle.bridge.proofs.CheckLaws.{Ready, send-ready}
+use Rattle.table.proofs.CheckLaws.{Ready, send-ready}
 use Rattle.bridge.proofs.StateLaws.{send-refused, send-untouched, send-answers, send-fills, delivered-answer, delivered-bytes}
 use Rattle.bridge.proofs.Keeps.{usedOf-lawful, composed-written}
 use Rattle.bridge.proofs.send.Statement.{statement}

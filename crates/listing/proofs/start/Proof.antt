@@ -1,11 +1,11 @@
 -- By what Setup and Links ensure.
 use mathlib.Core.Path.{_≡_, ap, _∙_}
 use mathlib.Core.Bool.{false}
-use Rattle.bridge.specs.Setup.{noMac, noPrecedence, setupOf}
+use Rattle.bridge.specs.Setup.{defaultTimeout, defaultBack, noMac, noPrecedence, setupOf}
 use Rattle.bridge.specs.Links.{linksOf}
 use Rattle.bridge.specs.declared.Done.{Done}
 use Rattle.bridge.specs.declared.Linked.{Linked}
-use Rattle.listing.specs.Listing.{startOf, listingPorts, bothLinked, defaultTimeout, defaultBack}
+use Rattle.listing.specs.Listing.{startOf, listingPorts, bothLinked}
 use borrow.Author.Needs.{needs}
 use Rattle.listing.proofs.start.Statement.{statement}
 use Rattle.listing.proofs.start.Tie as tie

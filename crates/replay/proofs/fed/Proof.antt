@@ -8,7 +8,7 @@ use borrow.Rule.Slice.PartMut.{same-len-mid}
 use lib.ListN.{length, take, drop, length-drop}
 use lib.Seq.{length-take-le}
 use Rattle.bridge.specs.State.{Lawful}
-use Rattle.console.specs.Said.{longest}
+use Rattle.words.specs.Said.{longest}
 use Rattle.replay.specs.Replay.{keptBytes}
 use Rattle.replay.proofs.fed.Statement.{statement}
 use Rattle.replay.proofs.fed.Tie as tie

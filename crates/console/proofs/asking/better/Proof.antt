@@ -4,9 +4,9 @@ use Prim.Native.Nat.{_≤_}
 use native.Mathlib.Omega.{arith}
 use lib.ListN.{length}
 use lib.Seq.{length-take-le}
-use Rattle.console.specs.Text.{fieldOf}
+use Rattle.words.specs.Text.{fieldOf}
 use Rattle.console.specs.Answer.{betterLine}
-use Rattle.console.proofs.ValueLaws.{bytes-known, content-taken}
+use Rattle.words.proofs.ValueLaws.{bytes-known, content-taken}
 use Rattle.console.proofs.AnswerLaws.{as-prints, better-bad1, better-bad2, better-good, better-bytes, better-short, rest-said}
 use borrow.Author.Needs.{needs}
 use Rattle.console.proofs.asking.better.Statement.{statement}

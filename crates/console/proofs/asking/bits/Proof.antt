@@ -1,6 +1,6 @@
 -- Eight bytes.
 use mathlib.Core.Path.{ap}
-use Rattle.console.specs.Said.{lineWith}
+use Rattle.words.specs.Said.{lineWith}
 use Rattle.console.proofs.AnswerLaws.{as-prints}
 use borrow.Author.Needs.{needs}
 use Rattle.console.proofs.asking.bits.Statement.{statement}

@@ -4,9 +4,9 @@ use Prim.Native.Nat.{_≤_}
 use native.Mathlib.Omega.{arith}
 use lib.ListN.{length}
 use lib.Seq.{length-take-le}
-use Rattle.console.specs.Text.{fieldOf}
+use Rattle.words.specs.Text.{fieldOf}
 use Rattle.console.specs.Answer.{readText, readLine}
-use Rattle.console.proofs.ValueLaws.{bytes-known, content-taken}
+use Rattle.words.proofs.ValueLaws.{bytes-known, content-taken}
 use Rattle.console.proofs.AnswerLaws.{as-prints, read-bad1, read-good}
 use borrow.Author.Needs.{needs}
 use Rattle.console.proofs.asking.read.Statement.{statement}

@@ -4,12 +4,12 @@ use Prim.Native.Nat.{_≤_}
 use native.Mathlib.Omega.{arith}
 use lib.ListN.{replicate}
 use lib.Seq.{length-take-le, length-front}
-use Rattle.console.specs.Text.{fieldOf}
-use Rattle.console.specs.Value.{numberIn}
-use Rattle.console.specs.Said.{lineWith}
+use Rattle.words.specs.Text.{fieldOf}
+use Rattle.words.specs.Value.{numberIn}
+use Rattle.words.specs.Said.{lineWith}
 use Rattle.console.specs.Answer.{sendLine}
-use Rattle.console.proofs.ValueLaws.{length-most}
-use Rattle.console.proofs.SaidLaws.{back-size, back-taken}
+use Rattle.words.proofs.ValueLaws.{length-most}
+use Rattle.words.proofs.SaidLaws.{back-size, back-taken}
 use Rattle.console.proofs.AnswerLaws.{as-says, as-prints, send-bad1, send-bad2, send-bad3, send-good}
 use borrow.Author.Needs.{needs}
 use Rattle.console.proofs.changing.send.Statement.{statement}

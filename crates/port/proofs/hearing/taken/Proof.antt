@@ -1,7 +1,7 @@
 -- The samples are those that step 4 keeps; the rest is stored as it is.
 use mathlib.Core.Path.{_≡_, _∙_}
-use Rattle.times.specs.Keep.{keptOf}
-use Rattle.times.specs.declared.Stamps.the-variants.{Set}
+use Rattle.samples.specs.Keep.{keptOf}
+use Rattle.samples.specs.declared.Stamps.the-variants.{Set}
 use Rattle.port.specs.Receive.{sampleOf, sameClock}
 use Rattle.port.specs.declared.Last.the-variants.{Was}
 use Rattle.port.specs.declared.Heard.the-variants.{Said}

@@ -1,6 +1,6 @@
 -- By the preceding reading, and by its frameCount.
 use mathlib.Core.Path.{sym, ap, _∙_}
-use Rattle.times.specs.declared.Samples.{Samples}
+use Rattle.samples.specs.declared.Samples.{Samples}
 use Rattle.port.specs.Own.{storedAs}
 use Rattle.port.proofs.PortLaws.{told-first, told-next, told-other}
 use borrow.Author.Needs.{needs}

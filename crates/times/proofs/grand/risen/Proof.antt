@@ -1,7 +1,7 @@
 -- A rise below a second stays within one second or reaches into the next; every other is far.
 use borrow.Author.Needs.{needs}
 use native.Mathlib.Omega.{arith}
-use Rattle.times.proofs.KeepLaws.{rise-by, rise-far}
+use Rattle.times.proofs.RiseLaws.{rise-by, rise-far}
 use Rattle.times.proofs.grand.risen.Statement.{statement}
 use Rattle.times.proofs.grand.risen.Tie as tie
 

@@ -1,0 +1,5 @@
+pub mod DelayLaws
+pub mod SentLaws
+pub mod Bound
+pub mod Edges
+pub mod PpmLaws

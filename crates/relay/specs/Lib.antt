@@ -1,0 +1,4 @@
+pub mod Delay
+pub mod Sent
+pub mod Drift
+pub mod Line

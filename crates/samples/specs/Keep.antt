@@ -1,0 +1,43 @@
+-- Step 4, which samples are kept.
+use mathlib.Core.Bool.{Bool, true, false}
+use Prim.Native.Nat.{ℕ}
+use lib.IntN.{ℤ, pos, _-ℤ_}
+use Rattle.times.specs.Times.{sinceOf, units, InRange}
+use Rattle.samples.specs.Rate.{Limits, gainOf}
+use Rattle.samples.specs.declared.Sample.{Sample}
+use Rattle.samples.specs.declared.Samples.{Samples}
+use Rattle.samples.specs.declared.Samples.the-variants.{Empty, One, Two}
+use Rattle.samples.specs.declared.Gain.{Gain}
+use Rattle.samples.specs.declared.Gain.the-variants.{Within, Outside}
+
+-- from a sample a to a later one b: S, the spread of local time; the spread of grand time over all 80 bits; d, what grand time gained
+abbrev pub spreadOf : Sample → Sample → ℕ
+spreadOf a b = sinceOf (b .local) (a .local)
+
+abbrev pub riseOf : Sample → Sample → ℤ
+riseOf a b = pos (units (b .grand)) -ℤ pos (units (a .grand))
+
+abbrev pub gainedOf : Sample → Sample → ℤ
+gainedOf a b = riseOf a b -ℤ pos (spreadOf a b)
+
+-- the gain between two samples, where the limits hold
+abbrev pub gainBetween : Sample → Sample → Gain
+gainBetween a b = gainOf (riseOf a b) (spreadOf a b)
+
+-- the newest sample stays beside the new one exactly where the limits hold between them
+abbrev pub keptBy : Gain → Sample → Sample → Samples
+keptBy (Within d) newest new = Two newest new
+keptBy Outside newest new = One new
+
+-- what is kept with a new sample: nothing of another clock, and of the same clock the newest sample if it may stay
+unfoldable pub keptOf : Samples → Bool → Sample → Samples
+keptOf old false new = One new
+keptOf Empty true new = One new
+keptOf (One a) true new = keptBy (gainBetween a new) a new
+keptOf (Two z a) true new = keptBy (gainBetween a new) a new
+
+-- samples that step 4 keeps: grand times in range, and two only within the limits
+abbrev pub LawfulSamples : Samples → Type 0
+LawfulSamples Empty = Unit {0}
+LawfulSamples (One a) = InRange (a .grand)
+LawfulSamples (Two a b) = InRange (a .grand) × InRange (b .grand) × Limits (gainedOf a b) (spreadOf a b)

@@ -1,0 +1,33 @@
+// Samples: a grand time and the local time that it belongs to. What lies between two of them, the rate of one clock on another, and which are kept.
+pub mod keeping;
+pub mod rates;
+
+use times::ErrorTime;
+use times::GrandTime;
+use times::LocalTime;
+
+// What a clock's frame says: its grand time, and the local time that it belongs to.
+pub struct Sample {
+    pub grand: GrandTime,
+    pub local: LocalTime,
+    pub error: ErrorTime,
+}
+
+// What is kept of a clock, the older sample first.
+pub enum Samples {
+    Empty,
+    One(Sample),
+    Two(Sample, Sample),
+}
+
+// A neighbour's localTime and the arrival here that it belongs to.
+pub enum Stamps {
+    Unset,
+    Set(LocalTime, LocalTime),
+}
+
+// By how much one clock gained on another, where the limits hold.
+pub enum Gain {
+    Within(i64),
+    Outside,
+}

@@ -1,0 +1,122 @@
+-- Laws of the table: the choice as a walk over the ports, a port whose link changes, whose samples a number means, and the settings of the first ports.
+use mathlib.Core.Path.{_≡_, refl, sym, ap, _∙_}
+use mathlib.Core.Bool.{Bool, true, false, cond, _&&_}
+use mathlib.Core.List.{List, [], _∷_}
+use Prim.Native.Nat.{ℕ, zero, suc, _+_, _-_, _<_, _≤_}
+use native.Mathlib.Numerals.{add-one, sub-one}
+use native.Mathlib.Omega.{arith}
+use borrow.Author.Tests.{eq-eqb, ne-eqb}
+use lib.Dec.{eqb, ltb}
+use lib.ListN.{length, getD, take, drop}
+use lib.Seq.{drop-cons, drop-length, getD-take, length-take-le}
+use Rattle.samples.specs.Keep.{LawfulSamples}
+use Rattle.port.specs.Record.{emptyPort}
+use Rattle.port.specs.Lawful.{LawfulPort, LawfulClock}
+use Rattle.port.specs.Choose.{rankOf, candidateOf, betterOf}
+use Rattle.port.specs.declared.Heard.{Heard}
+use Rattle.port.specs.declared.Heard.the-variants.{Silent, Said}
+use Rattle.port.specs.declared.Port.{Port}
+use Rattle.port.specs.declared.OwnClock.{OwnClock}
+use Rattle.port.specs.declared.Setting.{Setting}
+use Rattle.port.specs.declared.Choice.{Choice}
+use Rattle.port.specs.declared.Choice.the-variants.{Nothing, Clock}
+use Rattle.table.specs.Refusals.{bit}
+use Rattle.table.specs.Table.{portAt, relinkedPort, samplesAt, numberOf, samplesOfChoice, candidatesFrom, bestOf}
+use Rattle.table.specs.Fits.{delayFits, delaysFit}
+use Rattle.port.proofs.Choices.{if-when}
+
+-- ---- the choice, port by port
+
+pub best-turn : (ports : List Port) (i : ℕ) (d : Port) (choice next : Choice) → i < length ports → next ≡ betterOf choice (candidateOf (i + 1) (getD ports i d .heard))
+    → bestOf next (candidatesFrom (i + 1 + 1) (drop (i + 1) ports)) ≡ bestOf choice (candidatesFrom (i + 1) (drop i ports))
+unfolding bestOf candidatesFrom
+best-turn ports i d choice next h e = rw (e, add-one (i + 1), add-one i, drop-cons ports i d)
+
+pub best-end : (ports : List Port) (i : ℕ) (choice : Choice) → length ports ≡ i → bestOf choice (candidatesFrom (i + 1) (drop i ports)) ≡ choice
+unfolding bestOf candidatesFrom
+best-end ports i choice e = rw (← e, drop-length)
+
+-- the number of the choice is that of a candidate
+pub best-number : (k : ℕ) (ports : List Port) (choice : Choice) → numberOf choice ≤ k + length ports → numberOf (bestOf choice (candidatesFrom (suc k) ports)) ≤ k + length ports
+unfolding bestOf candidatesFrom candidateOf betterOf
+best-number k [] choice h = h
+best-number k (p ∷ ports) choice h =
+    let l : numberOf (betterOf choice (candidateOf (suc k) (p .heard))) ≤ suc k + length ports =
+    better-number choice (candidateOf (suc k) (p .heard)) (omega arith) (candidate-number (p .heard)) in
+    omega (arith, best-number (suc k) ports (betterOf choice (candidateOf (suc k) (p .heard))) l)
+  where
+    candidate-number : (h : Heard) → numberOf (candidateOf (suc k) h) ≤ suc k + length ports
+    candidate-number Silent = omega arith
+    candidate-number (Said q h when) = omega arith
+
+    better-number : (a b : Choice) {m : ℕ} → numberOf a ≤ m → numberOf b ≤ m → numberOf (betterOf a b) ≤ m
+    better-number Nothing b x y = y
+    better-number (Clock p h i) Nothing x y = x
+    better-number (Clock p h i) (Clock q k j) {m} x y = if-when (λ (c : Choice). numberOf c ≤ m) (ltb (rankOf q k j) (rankOf p h i)) (λ _. y) (λ _. x)
+
+-- ---- a port whose link changes, or not
+
+module _ (links mask i : ℕ) (port : Port) where
+  pub relinked-down : bit links i ≡ 1 → bit mask i ≡ 0 → emptyPort ≡ relinkedPort links mask i port
+  unfolding relinkedPort
+  relinked-down a z = λ k. cond (sym (eq-eqb (bit links i) 1 a) k && sym (eq-eqb (bit mask i) 0 z) k) emptyPort port
+
+  pub relinked-up : bit links i ≡ 1 → (bit mask i ≡ 0 → ⊥) → port ≡ relinkedPort links mask i port
+  unfolding relinkedPort
+  relinked-up a z = λ k. cond (sym (eq-eqb (bit links i) 1 a) k && sym (ne-eqb (bit mask i) 0 z) k) emptyPort port
+
+  pub relinked-out : (bit links i ≡ 1 → ⊥) → port ≡ relinkedPort links mask i port
+  unfolding relinkedPort
+  relinked-out a = ap (λ (t : Bool). cond (t && eqb (bit mask i) 0) emptyPort port) (sym (ne-eqb (bit links i) 1 a))
+
+-- ---- whose samples
+
+pub samples-own : (number : ℕ) (clock : OwnClock) (ports : List Port) → number ≡ 0 → clock .samples ≡ samplesAt number clock ports
+unfolding samplesAt
+samples-own number clock ports e = ap (λ (n : ℕ). samplesAt n clock ports) (sym e)
+
+pub samples-port : (number : ℕ) (clock : OwnClock) (ports : List Port) → (number ≡ 0 → ⊥) → portAt ports (number - 1) .samples ≡ samplesAt number clock ports
+unfolding samplesAt
+samples-port zero clock ports n = absurd (n refl)
+samples-port (suc i) clock ports n = ap (λ (k : ℕ). portAt ports k .samples) (sub-one (suc i))
+
+pub samples-none : (choice : Choice) (clock : OwnClock) (ports : List Port) → choice ≡ Nothing → samplesOfChoice Nothing clock ports ≡ samplesOfChoice choice clock ports
+samples-none choice clock ports e = ap (λ (x : Choice). samplesOfChoice x clock ports) (sym e)
+
+-- every clock's samples are lawful
+pub samples-lawful : (number : ℕ) (clock : OwnClock) (ports : List Port) → LawfulClock clock → ((i : ℕ) → LawfulPort (portAt ports i)) → LawfulSamples (samplesAt number clock ports)
+unfolding samplesAt
+samples-lawful zero clock ports c p = c .samples
+samples-lawful (suc i) clock ports c p = p i .samples
+
+pub chosen-lawful : (choice : Choice) (clock : OwnClock) (ports : List Port) → LawfulClock clock → ((i : ℕ) → LawfulPort (portAt ports i)) → LawfulSamples (samplesOfChoice choice clock ports)
+unfolding samplesOfChoice
+chosen-lawful Nothing clock ports c p = tt
+chosen-lawful (Clock q h n) clock ports c p = samples-lawful n clock ports c p
+
+-- ---- the settings of the first n ports
+
+module _ (settings : List Setting) (n : ℕ) (room : n ≤ length settings) where
+  abbrev first : List Setting
+  first = take n settings
+
+  next-setting : (i : ℕ) (d : Setting) → i < n → drop i first ≡ getD settings i d ∷ drop (i + 1) first
+  next-setting i d h =
+      let l : i < length first = rw (length-take-le n settings room) h in
+      rw (add-one, drop-cons first i d, getD-take) refl
+
+  pub delays-turn : (i : ℕ) (d : Setting) → i < n → delayFits (getD settings i d .delay) ≡ true → delaysFit (drop (i + 1) first) ≡ delaysFit (drop i first)
+  unfolding delaysFit
+  delays-turn i d h e =
+      ap (λ (b : Bool). b && delaysFit (drop (i + 1) first)) (sym e) ∙ ap delaysFit (sym (next-setting i d h))
+
+  pub delays-stop : (i : ℕ) (d : Setting) → i < n → delayFits (getD settings i d .delay) ≡ false → false ≡ delaysFit (drop i first)
+  unfolding delaysFit
+  delays-stop i d h e =
+      ap (λ (b : Bool). b && delaysFit (drop (i + 1) first)) (sym e) ∙ ap delaysFit (sym (next-setting i d h))
+
+  pub delays-end : (i : ℕ) → i ≡ n → true ≡ delaysFit (drop i first)
+  unfolding delaysFit
+  delays-end i e =
+      let l : length first ≡ i = length-take-le n settings room ∙ sym e in
+      rw (← l, drop-length)

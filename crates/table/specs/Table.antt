@@ -1,0 +1,57 @@
+-- The table of records: each changed by its index, the candidates and the best of them, and whose samples are meant by a number.
+use mathlib.Core.Bool.{cond, _&&_}
+use Prim.Native.Nat.{ℕ, zero, suc}
+use mathlib.Core.List.{List, [], _∷_}
+use lib.Dec.{eqb}
+use lib.ListN.{getD}
+use Rattle.samples.specs.declared.Samples.{Samples}
+use Rattle.samples.specs.declared.Samples.the-variants.{Empty}
+use Rattle.port.specs.Record.{emptyPort}
+use Rattle.port.specs.Choose.{candidateOf, betterOf}
+use Rattle.port.specs.declared.Port.{Port}
+use Rattle.port.specs.declared.OwnClock.{OwnClock}
+use Rattle.port.specs.declared.Choice.{Choice}
+use Rattle.port.specs.declared.Choice.the-variants.{Nothing, Clock}
+use Rattle.table.specs.Refusals.{bit}
+
+-- the most ports
+abbrev pub mostPorts : ℕ
+mostPorts = 8
+
+-- every element changed by f, the first at index k
+unfoldable pub each : {A : Type 0} → (ℕ → A → A) → ℕ → List A → List A
+each f k [] = []
+each f k (a ∷ l) = f k a ∷ each f (suc k) l
+
+-- the record at an index
+abbrev pub portAt : List Port → ℕ → Port
+portAt ports i = getD ports i emptyPort
+
+-- a port whose bit goes from 1 to 0 loses its whole record
+unfoldable pub relinkedPort : ℕ → ℕ → ℕ → Port → Port
+relinkedPort links mask i port = cond (eqb (bit links i) 1 && eqb (bit mask i) 0) emptyPort port
+
+-- the candidates of the ports, the first of which has the number k
+unfoldable pub candidatesFrom : ℕ → List Port → List Choice
+candidatesFrom k [] = []
+candidatesFrom k (p ∷ ps) = candidateOf k (p .heard) ∷ candidatesFrom (suc k) ps
+
+-- the best of a candidate and a list of them
+unfoldable pub bestOf : Choice → List Choice → Choice
+bestOf best [] = best
+bestOf best (c ∷ cs) = bestOf (betterOf best c) cs
+
+-- the samples of the own clock, 0, or of the port with this number
+unfoldable pub samplesAt : ℕ → OwnClock → List Port → Samples
+samplesAt zero clock ports = clock .samples
+samplesAt (suc i) clock ports = portAt ports i .samples
+
+-- the number of a choice, 0 where there is none
+abbrev pub numberOf : Choice → ℕ
+numberOf Nothing = 0
+numberOf (Clock precedence hop number) = number
+
+-- the samples of the chosen clock, none where no clock is chosen
+unfoldable pub samplesOfChoice : Choice → OwnClock → List Port → Samples
+samplesOfChoice Nothing clock ports = Empty
+samplesOfChoice (Clock precedence hop number) clock ports = samplesAt number clock ports
