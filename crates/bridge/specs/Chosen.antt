@@ -1,9 +1,8 @@
 -- Chosen.
-use Rattle.port.specs.Choose.{ownCandidate}
 use Rattle.port.specs.declared.Choice.{Choice}
-use Rattle.table.specs.Table.{candidatesFrom, bestOf}
+use Rattle.table.specs.Table.{choiceOf}
 use Rattle.bridge.specs.declared.Bridge.{Bridge}
 
--- own clock first, then the ports
+-- the best clock of the whole state, or none
 unfoldable pub chosenOf : Bridge → Choice
-chosenOf b = bestOf (ownCandidate (b .capable) (b .own)) (candidatesFrom 1 (b .ports))
+chosenOf b = choiceOf (b .capable) (b .own) (b .ports)

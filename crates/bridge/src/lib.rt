@@ -183,23 +183,24 @@ pub fn own_clock(b: Bridge, count: u8, seconds: u64, fraction: u64, at: u64) -> 
 }
 
 // A frame that was read, on the port at index i.
-fn heard(b: Bridge, i: usize, f: Fields, at: LocalTime) -> Done
+fn heard(mut b: Bridge, i: usize, f: Fields, at: LocalTime) -> Done
     requires { ⌜ Lawful b ⌝ }
     requires { ⌜ i < 8 ⌝ }
     requires { ⌜ FieldsInRange f ⌝ }
     ensures { λ r. ⌜ r ≡ heardOf b i f at ⌝ }
 {
-    let hop = ranking::chosen_hop(chosen(b));
+    let own = b.own;
+    let ports = b.ports;
+    let hop = ranking::chosen_hop(records::choice(b.capable, own, ports));
     let port = b.ports[i];
     let setting = b.settings[i];
     let delay = setting.delay;
     let received = hearing::received(port, delay, hop, f, at);
     let after = received.port;
-    let mut next = b;
-    next.ports[i] = after;
+    b.ports[i] = after;
     Done {
         answer: received.answer,
-        next: next,
+        next: b,
     }
 }
 
@@ -254,7 +255,7 @@ pub fn chosen(b: Bridge) -> Choice
 {
     let own = b.own;
     let ports = b.ports;
-    records::best(ranking::own_candidate(b.capable, own), ports)
+    records::choice(b.capable, own, ports)
 }
 
 // The frame that the port at index i sends at t, or why it sends none.
@@ -263,9 +264,10 @@ fn composed(b: Bridge, i: usize, t: LocalTime) -> Sending
     requires { ⌜ i < 8 ⌝ }
     ensures { λ r. ⌜ r ≡ composedOf b i t ⌝ }
 {
-    let choice = chosen(b);
-    let clock = b.clock;
+    let own = b.own;
     let ports = b.ports;
+    let choice = records::choice(b.capable, own, ports);
+    let clock = b.clock;
     let mac = b.mac;
     let port = b.ports[i];
     let samples = records::samples_of_choice(choice, clock, ports);

@@ -1,13 +1,14 @@
 -- The table of records: each changed by its index, the candidates and the best of them, and whose samples are meant by a number.
-use mathlib.Core.Bool.{cond, _&&_}
+use mathlib.Core.Bool.{Bool, cond, _&&_}
 use Prim.Native.Nat.{ℕ, zero, suc}
 use mathlib.Core.List.{List, [], _∷_}
 use lib.Dec.{eqb}
 use lib.ListN.{getD}
 use Rattle.samples.specs.declared.Samples.{Samples}
 use Rattle.samples.specs.declared.Samples.the-variants.{Empty}
+use Rattle.frame.specs.declared.Precedence.{Precedence}
 use Rattle.port.specs.Record.{emptyPort}
-use Rattle.port.specs.Choose.{candidateOf, betterOf}
+use Rattle.port.specs.Choose.{candidateOf, ownCandidate, betterOf}
 use Rattle.port.specs.declared.Port.{Port}
 use Rattle.port.specs.declared.OwnClock.{OwnClock}
 use Rattle.port.specs.declared.Choice.{Choice}
@@ -40,6 +41,10 @@ candidatesFrom k (p ∷ ps) = candidateOf k (p .heard) ∷ candidatesFrom (suc k
 unfoldable pub bestOf : Choice → List Choice → Choice
 bestOf best [] = best
 bestOf best (c ∷ cs) = bestOf (betterOf best c) cs
+
+-- own clock first, then the ports
+abbrev pub choiceOf : Bool → Precedence → List Port → Choice
+choiceOf capable own ports = bestOf (ownCandidate capable own) (candidatesFrom 1 ports)
 
 -- the samples of the own clock, 0, or of the port with this number
 unfoldable pub samplesAt : ℕ → OwnClock → List Port → Samples

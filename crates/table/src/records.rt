@@ -3,8 +3,9 @@ ghost use mathlib.Core.Path.{_≡_};
 ghost use Prim.Native.Nat.{_<_, _≤_};
 ghost use lib.ListN.{replicate};
 ghost use Rattle.port.specs.Record.{agedPort};
-ghost use Rattle.table.specs.Table.{each, samplesAt, samplesOfChoice, numberOf, relinkedPort, bestOf, candidatesFrom};
+ghost use Rattle.table.specs.Table.{each, samplesAt, samplesOfChoice, numberOf, relinkedPort, choiceOf};
 ghost use Rattle.table.specs.Fits.{measuredSetting};
+use frame::Precedence;
 use port::Choice;
 use port::OwnClock;
 use port::Port;
@@ -69,19 +70,19 @@ pub fn relinked(ports: [Port; 8], links: u8, mask: u8) -> [Port; 8]
     after
 }
 
-// The best of a first candidate and those of the ports.
-pub fn best(first: Choice, ports: [Port; 8]) -> Choice
-    ensures { λ r. ⌜ r ≡ bestOf first (candidatesFrom 1 ports) ⌝ }
+// The choice between the own clock, on a station that is capable, and the clocks heard at the ports.
+pub fn choice(capable: bool, own: Precedence, ports: [Port; 8]) -> Choice
+    ensures { λ r. ⌜ r ≡ choiceOf capable own ports ⌝ }
 {
-    let mut choice = first;
+    let mut best = ranking::own_candidate(capable, own);
     let mut i: usize = 0;
     while i < PORTS {
         let port = ports[i];
         let heard = port.heard;
-        choice = ranking::better(choice, ranking::candidate(heard, (i + 1) as u8));
+        best = ranking::better(best, ranking::candidate(heard, (i + 1) as u8));
         i += 1;
     }
-    choice
+    best
 }
 
 // The samples of the own clock, 0, or of a port.

@@ -5,12 +5,13 @@ use Prim.Native.Nat.{ℕ}
 use Rattle.port.specs.Choose.{chosenHop}
 use Rattle.port.specs.Receive.{receivedOf}
 use Rattle.table.specs.Table.{portAt}
+use Rattle.bridge.specs.Chosen.{chosenOf}
 use Rattle.bridge.specs.Receive.{receivedAs, delayAt, heardOf}
 use Rattle.bridge.proofs.heard.Statement.{statement}
 use Rattle.bridge.proofs.heard.Tie as tie
 
-chosen-requires : tie.Need-chosen-requires
-chosen-requires c κs = search needs
+choice-requires : tie.Need-choice-requires
+choice-requires c κs = search needs
 
 chosen-hop-requires : tie.Need-chosen-hop-requires
 chosen-hop-requires c κs = search needs
@@ -29,7 +30,7 @@ element-copy-out-setting c = search needs
 
 received-requires : tie.Need-received-requires
 received-requires c κs =
-    let s = c .before .before .before .before in
+    let s = c .before .before .before .before .before .before in
     (s .pre .0 .ports-lawful _, s .pre .1 .1)
 
 mul-after : tie.Need-mul-after
@@ -39,21 +40,21 @@ element-set-from-after : tie.Need-element-set-from-after
 element-set-from-after c = search needs
 
 returns : tie.Need-returns
-unfolding heardOf
+unfolding heardOf chosenOf
 returns c =
     let r = c .before in
     let h = r .before .before .before in
     let k = h .before in
-    let a = k .before .args in
+    let a = k .before .before .before .args in
     ap (receivedAs (a .t1) (a .i))
     (r .received .ensures
-    ∙ ap (λ (hop : ℕ). receivedOf (delayAt (a .t1) (a .i)) hop (a .f) (a .at) (portAt (a .t1 .ports) (a .i))) (h .chosen-hop .ensures ∙ ap chosenHop (k .chosen .ensures)))
+    ∙ ap (λ (hop : ℕ). receivedOf (delayAt (a .t1) (a .i)) hop (a .f) (a .at) (portAt (a .t1 .ports) (a .i))) (h .chosen-hop .ensures ∙ ap chosenHop (k .choice .ensures)))
 
 pub heard-spec : {M : Type 1} → statement M
 heard-spec =
     tie.close
     (tie.spec
-    chosen-requires
+    choice-requires
     chosen-hop-requires
     mul-port
     element-copy-out-port

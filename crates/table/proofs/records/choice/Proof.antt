@@ -1,4 +1,4 @@
--- The best so far and the ports left make the same choice.
+-- The own clock first; then the best so far and the ports left make the same choice.
 use mathlib.Core.Path.{_≡_, refl, sym, ap, _∙_}
 use Prim.Native.Nat.{_+_, _-_, _≤_}
 use native.Mathlib.Omega.{arith}
@@ -6,16 +6,20 @@ use borrow.Author.Needs.{needs}
 use lib.ListN.{length, drop}
 use Rattle.port.specs.Record.{emptyPort}
 use Rattle.port.specs.Choose.{betterOf}
+use Rattle.port.specs.declared.Choice.{Choice}
 use Rattle.table.specs.Table.{candidatesFrom, bestOf}
 use Rattle.table.proofs.TableLaws.{best-turn, best-end}
-use Rattle.table.proofs.records.best.Statement.{statement}
-use Rattle.table.proofs.records.best.Tie as tie
+use Rattle.table.proofs.records.choice.Statement.{statement}
+use Rattle.table.proofs.records.choice.Tie as tie
 
 abbrev Inv-loop : tie.InvT-loop
-Inv-loop ports choice₀ i₀ choice i = (length ports ≡ 8) × (i ≤ 8) × (bestOf choice (candidatesFrom (i + 1) (drop i ports)) ≡ bestOf choice₀ (candidatesFrom 1 ports))
+Inv-loop capable ports best₀ i₀ best i = (length ports ≡ 8) × (i ≤ 8) × (bestOf best (candidatesFrom (i + 1) (drop i ports)) ≡ bestOf best₀ (candidatesFrom 1 ports))
 
 abbrev μ-loop : tie.MeasureT-loop
-μ-loop ports choice₀ i₀ choice i = 8 - i
+μ-loop capable ports best₀ i₀ best i = 8 - i
+
+own-candidate-requires : tie.Need-own-candidate-requires Inv-loop μ-loop
+own-candidate-requires c κs = search needs
 
 loop-holds : tie.Need-loop-holds Inv-loop μ-loop
 loop-holds c = (omega arith, omega arith, refl)
@@ -48,19 +52,23 @@ loop-again : tie.Need-loop-again Inv-loop μ-loop
 loop-again c =
     let k = c .before in
     let l = k .before .before .before .loop in
-    (l .inv .0, omega arith, best-turn _ (l .i) emptyPort _ _ (omega arith) (c .better .ensures ∙ ap (betterOf (l .choice)) (k .candidate .ensures)) ∙ l .inv .2)
+    (l .inv .0, omega arith, best-turn _ (l .i) emptyPort _ _ (omega arith) (c .better .ensures ∙ ap (betterOf (l .best)) (k .candidate .ensures)) ∙ l .inv .2)
 
 returns : tie.Need-returns Inv-loop μ-loop
 returns c =
     let l = c .before .loop in
-    sym (best-end _ (l .i) (l .choice) (omega arith)) ∙ l .inv .2
+    let o = c .before .before in
+    sym (best-end _ (l .i) (l .best) (omega arith))
+    ∙ l .inv .2
+    ∙ ap (λ (x : Choice). bestOf x (candidatesFrom 1 (o .before .args .t3))) (o .own-candidate .ensures)
 
-pub best-spec : {M : Type 1} → statement M
-best-spec =
+pub choice-spec : {M : Type 1} → statement M
+choice-spec =
     tie.close
     (tie.spec
     Inv-loop
     μ-loop
+    own-candidate-requires
     loop-holds
     mul-port
     array-copy-out-port
