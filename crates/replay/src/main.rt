@@ -3,6 +3,7 @@ ghost use mathlib.Core.Path.{_≡_};
 ghost use Prim.Native.Nat.{_+_, _≤_};
 ghost use lib.ListN.{length, take};
 ghost use Rattle.bridge.specs.State.{Lawful};
+ghost use Rattle.bridge.specs.Setup.{noBridge};
 ghost use Rattle.console.specs.Said.{longest};
 ghost use Rattle.replay.specs.Replay.{keptBytes, textBytes, lineEnd, keptOf, Ready};
 use bridge::Bridge;
@@ -33,6 +34,7 @@ struct Lines {
 
 // The bridge before the first line: what a refused Setup hands back.
 fn start() -> Bridge
+    ensures { λ r. ⌜ r ≡ noBridge ⌝ }
     ensures { λ r. ⌜ Lawful r ⌝ }
 {
     let nobody = Mac(0, 0, 0, 0, 0, 0);
