@@ -137,6 +137,12 @@ pub fn answer_line(b: Bridge, text: &[u8], out: &mut [u8]) -> Answered
     requires { ⌜ longest ≤ length (now out) ⌝ }
     ensures { λ r. ⌜ Says (answerOf b (now (text .entry))) r (now (out .entry)) (now (out .exit)) ⌝ }
 {
+    if LONGEST_LINE < text.len() {
+        return Answered {
+            next: b,
+            len: printing::refused(out),
+        };
+    }
     let letter = cutting::letter(text);
     if cutting::count(text) != wanted(letter) {
         return Answered {

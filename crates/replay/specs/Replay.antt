@@ -5,15 +5,16 @@ use Prim.Native.Nat.{ℕ, _+_, _≤_}
 use lib.ListN.{length, take, drop}
 use Rattle.hexline.specs.Line.{untilNewline}
 use Rattle.bridge.specs.State.{Lawful}
+use Rattle.console.specs.Answer.{longestLine}
 use Rattle.replay.specs.declared.Session.{Session}
 
 -- what is kept of a line: one byte more than the longest line has
 abbrev pub keptBytes : ℕ
-keptBytes = 516
+keptBytes = longestLine + 1
 
 -- and the room for it and its newline
 abbrev pub textBytes : ℕ
-textBytes = 517
+textBytes = keptBytes + 1
 
 -- where the line that starts at `from` ends: at a newline, or with the bytes
 abbrev pub lineEnd : List ℕ → ℕ → ℕ
