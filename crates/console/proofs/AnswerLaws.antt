@@ -5,11 +5,11 @@ use mathlib.Core.List.{List, _++_}
 use Prim.Native.Nat.{ℕ, zero, suc, _+_, _*_, _^_, _<_, _≤_}
 use native.Mathlib.Omega.{arith}
 use lib.ListN.{length, take, drop, length-take}
-use lib.Dec.{T, ltb}
+use lib.Dec.{T, ltb, eqb}
 use lib.Ieee.{Float, inf, isNan, Format, binary64, prec, emax, low, round, units, odd}
 use lib.IntN.{ℤ}
 use denote.Ref.{RefT, now}
-use borrow.Author.Tests.{lt-ltb, le-ltb, eq-eqb, ne-eqb}
+use borrow.Author.Tests.{lt-ltb, le-ltb, ne-eqb}
 use Rattle.times.specs.Drift.{ppmOf, driftOf}
 use Rattle.times.specs.Sent.{rateBetween}
 use Rattle.times.specs.declared.Samples.{Samples}
@@ -22,7 +22,7 @@ use Rattle.bridge.specs.Table.{samplesAt}
 use Rattle.console.specs.Text.{countOf, letterOf}
 use Rattle.console.proofs.SaidLaws.{line-most}
 use Rattle.console.specs.Said.{line1, line2, lineBytes, lineWith, Prints}
-use Rattle.console.specs.Answer.{Answer, says, badText, badLine, doneSays, untouched, setupBy, linkedSays, linksBy, ownBy, receiveBy, ageBy, sentSays, sendBy, driftText, driftBy, readText, readBy, writeBy, pieceOf, betterBytes, betterBy, wantedOf, askedText, callOf, longestLine, answerOf, Says}
+use Rattle.console.specs.Answer.{Answer, says, badText, badLine, doneSays, untouched, setupBy, linkedSays, linksBy, ownBy, receiveBy, ageBy, sentSays, sendBy, driftText, driftBy, readText, readBy, writeBy, pieceOf, betterBytes, betterBy, wantedOf, askedText, callOf, longestLine, formedOf, answerOf, Says}
 use Rattle.times.specs.declared.Drift.{Drift}
 use Rattle.times.specs.declared.Drift.the-variants.{PartsPerMillion, Refused as noClock}
 use Rattle.frame.specs.Read.{readOf}
@@ -310,14 +310,20 @@ unfolding callOf
 call-rest letter b s n1 n2 n3 n4 n5 n6 =
     rw (ne-eqb letter 83 n1, ne-eqb letter 76 n2, ne-eqb letter 79 n3, ne-eqb letter 82 n4, ne-eqb letter 65 n5, ne-eqb letter 84 n6)
 
-pub answer-long : (b : Bridge) (s : List ℕ) → longestLine < length s → badLine b ≡ answerOf b s
-unfolding answerOf
-answer-long b s h = rw (lt-ltb longestLine (length s) h)
+-- ---- the line's form
 
-pub answer-bad : (b : Bridge) (s : List ℕ) → length s ≤ longestLine → (countOf s ≡ wantedOf (letterOf s) → ⊥) → badLine b ≡ answerOf b s
-unfolding answerOf
-answer-bad b s h n = rw (le-ltb longestLine (length s) h, ne-eqb (countOf s) (wantedOf (letterOf s)) n)
+pub formed-long : (s : List ℕ) → longestLine < length s → formedOf s ≡ false
+unfolding formedOf
+formed-long s h = rw (lt-ltb longestLine (length s) h)
 
-pub answer-call : (b : Bridge) (s : List ℕ) → length s ≤ longestLine → countOf s ≡ wantedOf (letterOf s) → callOf (letterOf s) b s ≡ answerOf b s
+pub formed-short : (s : List ℕ) → length s ≤ longestLine → eqb (countOf s) (wantedOf (letterOf s)) ≡ formedOf s
+unfolding formedOf
+formed-short s h = rw (le-ltb longestLine (length s) h)
+
+pub answer-bad : (b : Bridge) (s : List ℕ) → formedOf s ≡ false → badLine b ≡ answerOf b s
 unfolding answerOf
-answer-call b s h e = rw (le-ltb longestLine (length s) h, eq-eqb (countOf s) (wantedOf (letterOf s)) e)
+answer-bad b s e = rw e
+
+pub answer-call : (b : Bridge) (s : List ℕ) → formedOf s ≡ true → callOf (letterOf s) b s ≡ answerOf b s
+unfolding answerOf
+answer-call b s e = rw e

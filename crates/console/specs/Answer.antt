@@ -241,11 +241,13 @@ callOf letter b s =
 abbrev pub longestLine : ℕ
 longestLine = 515
 
--- the line whole: it is no longer than that, and its letter wants as many fields as there are
+-- a line that is no longer, and has as many fields as its letter wants
+unfoldable pub formedOf : List ℕ → Bool
+formedOf s = cond (ltb longestLine (length s)) false (eqb (countOf s) (wantedOf (letterOf s)))
+
+-- the line whole
 unfoldable pub answerOf : Bridge → List ℕ → Answer
-answerOf b s =
-    cond (ltb longestLine (length s)) (badLine b)
-    (cond (eqb (countOf s) (wantedOf (letterOf s))) (callOf (letterOf s) b s) (badLine b))
+answerOf b s = cond (formedOf s) (callOf (letterOf s) b s) (badLine b)
 
 -- ---- what a call promises
 

@@ -10,7 +10,7 @@ ghost use Prim.Native.Nat.{_≤_};
 ghost use lib.ListN.{length};
 ghost use Rattle.bridge.specs.State.{Lawful};
 ghost use Rattle.console.specs.Said.{longest, Prints};
-ghost use Rattle.console.specs.Answer.{wantedOf, askedText, answerOf, Says};
+ghost use Rattle.console.specs.Answer.{wantedOf, formedOf, askedText, answerOf, Says};
 use bridge::Bridge;
 use frame::Fields;
 use frame::Mac;
@@ -115,6 +115,16 @@ pub fn wanted(letter: u8) -> usize
     }
 }
 
+// Whether a line is no longer than any can be, and has as many fields as its letter wants.
+fn formed(text: &[u8]) -> bool
+    ensures { λ r. ⌜ r ≡ formedOf (now (text .entry)) ⌝ }
+{
+    if LONGEST_LINE < text.len() {
+        return false;
+    }
+    cutting::count(text) == wanted(cutting::letter(text))
+}
+
 // A line whose call leaves the state as it is.
 fn asked(b: Bridge, letter: u8, text: &[u8], out: &mut [u8]) -> usize
     requires { ⌜ Lawful b ⌝ }
@@ -137,19 +147,13 @@ pub fn answer_line(b: Bridge, text: &[u8], out: &mut [u8]) -> Answered
     requires { ⌜ longest ≤ length (now out) ⌝ }
     ensures { λ r. ⌜ Says (answerOf b (now (text .entry))) r (now (out .entry)) (now (out .exit)) ⌝ }
 {
-    if LONGEST_LINE < text.len() {
+    if !formed(text) {
         return Answered {
             next: b,
             len: printing::refused(out),
         };
     }
     let letter = cutting::letter(text);
-    if cutting::count(text) != wanted(letter) {
-        return Answered {
-            next: b,
-            len: printing::refused(out),
-        };
-    }
     match letter {
         b'S' => changing::setup(b, text, out),
         b'L' => changing::links(b, text, out),

@@ -10,7 +10,7 @@ use lib.ListN.{length, take, length-take}
 use lib.Seq.{take-all}
 use Rattle.bridge.specs.declared.Bridge.{Bridge}
 use Rattle.console.specs.Answer.{longestLine, answerOf}
-use Rattle.console.proofs.AnswerLaws.{answer-long}
+use Rattle.console.proofs.AnswerLaws.{formed-long, answer-bad}
 use Rattle.replay.specs.Replay.{keptBytes, keptOf}
 
 -- ---- a line in parts
@@ -33,5 +33,5 @@ kept-answers b line = by (ltb longestLine (length line)) refl
     by true e =
         let h = ltb-true longestLine (length line) e in
         let k : longestLine < length (take keptBytes line) = rw (length-take keptBytes line) (omega (arith, h)) in
-        sym (answer-long b (take keptBytes line) k) ∙ answer-long b line h
+        sym (answer-bad b (take keptBytes line) (formed-long (take keptBytes line) k)) ∙ answer-bad b line (formed-long line h)
     by false e = ap (answerOf b) (take-all keptBytes line (omega (arith, ltb-false longestLine (length line) e)))

@@ -1,28 +1,25 @@
--- By the length, the letter and the number of fields.
+-- By the line's form, and then by its letter.
 use mathlib.Core.Path.{_≡_, refl, sym, ap, _∙_}
 use Prim.Native.Nat.{ℕ}
-use Rattle.console.specs.Answer.{wantedOf, callOf, answerOf}
-use Rattle.console.proofs.AnswerLaws.{as-says, answer-long, answer-bad, answer-call, call-rest}
+use Rattle.console.specs.Answer.{callOf, answerOf}
+use Rattle.console.proofs.AnswerLaws.{as-says, answer-bad, answer-call, call-rest}
 use borrow.Author.Needs.{needs}
+use borrow.Author.Tests.{not-true, not-false}
 use Rattle.console.proofs.answer_line.Statement.{statement}
 use Rattle.console.proofs.answer_line.Tie as tie
 
--- a line that is not too long and has the fields that its letter wants is answered by the letter
-called : (c : tie.Else2) → let s = c .before .before .before .before .before .before .before in callOf (c .before .before .before .letter .result) (s .args .b) (s .args .text .now) ≡ answerOf (s .args .b) (s .args .text .now)
-called c =
-    let w = c .before in
-    let k = w .before in
-    let l = k .before in
-    let s = l .before .before .before .before in
+-- a line that has the form of one is answered by its letter, whichever that is
+called : (c : tie.After-letter) (letter : ℕ) → c .letter .result ≡ letter
+    → let s = c .before .before .before .before .before in callOf letter (s .args .b) (s .args .text .now) ≡ answerOf (s .args .b) (s .args .text .now)
+called c letter e =
+    let f = c .before .before in
+    let s = f .before .before .before in
     let b = s .args .b in
     let t = s .args .text .now in
-    let same = sym (k .count .ensures) ∙ c .if2 .left ∙ w .wanted .ensures ∙ ap wantedOf (l .letter .ensures) in
-    ap (λ (x : ℕ). callOf x b t) (l .letter .ensures) ∙ answer-call b t (l .before .if1 .left) same
+    ap (λ (x : ℕ). callOf x b t) (sym e ∙ c .letter .ensures) ∙ answer-call b t (sym (f .formed .ensures) ∙ not-false _ (c .before .if1 .left))
 
--- by the letter that was matched
-matched : (c : tie.Else2) (key : ℕ) → c .before .before .before .letter .result ≡ key
-    → let s = c .before .before .before .before .before .before .before in callOf key (s .args .b) (s .args .text .now) ≡ answerOf (s .args .b) (s .args .text .now)
-matched c key e = let s = c .before .before .before .before .before .before .before in ap (λ (x : ℕ). callOf x (s .args .b) (s .args .text .now)) (sym e) ∙ called c
+formed-requires : tie.Need-formed-requires
+formed-requires c κs = search needs
 
 refused-requires : tie.Need-refused-requires
 refused-requires c κs = search needs
@@ -34,36 +31,14 @@ returns : tie.Need-returns
 returns c =
     let r = c .before .before in
     let t = r .before .before in
-    let s = t .before .before .before in
-    as-says (answer-long (s .args .b) (s .args .text .now) (t .if1 .taken)) (record { state = refl; prints = r .refused .ensures; lawful = s .pre .0 })
+    let f = t .before in
+    let s = f .before .before .before in
+    as-says
+    (answer-bad (s .args .b) (s .args .text .now) (sym (f .formed .ensures) ∙ not-true _ (t .if1 .taken)))
+    (record { state = refl; prints = r .refused .ensures; lawful = s .pre .0 })
 
 letter-requires : tie.Need-letter-requires
 letter-requires c κs = search needs
-
-count-requires : tie.Need-count-requires
-count-requires c κs = search needs
-
-wanted-requires : tie.Need-wanted-requires
-wanted-requires c κs = search needs
-
-refused-requires-2 : tie.Need-refused-requires-2
-refused-requires-2 c κs = search needs
-
-same-length-2 : tie.Need-same-length-2
-same-length-2 c = search needs
-
-returns-2 : tie.Need-returns-2
-returns-2 c =
-    let r = c .before .before in
-    let t = r .before .before in
-    let w = t .before in
-    let k = w .before in
-    let l = k .before in
-    let s = l .before .before .before .before in
-    as-says
-    (answer-bad (s .args .b) (s .args .text .now) (l .before .if1 .left)
-    (λ e. t .if2 .taken (k .count .ensures ∙ e ∙ sym (w .wanted .ensures ∙ ap wantedOf (l .letter .ensures)))))
-    (record { state = refl; prints = r .refused2 .ensures; lawful = s .pre .0 })
 
 setup-requires : tie.Need-setup-requires
 setup-requires c κs = search needs
@@ -86,6 +61,15 @@ send-requires c κs = search needs
 asked-requires : tie.Need-asked-requires
 asked-requires c κs = search needs
 
+same-length-2 : tie.Need-same-length-2
+same-length-2 c = search needs
+
+returns-2 : tie.Need-returns-2
+unfolding callOf
+returns-2 c =
+    let m = c .before .before .before .before in
+    as-says (called (m .before) 83 (m .match .keys1)) (c .before .before .setup .ensures)
+
 same-length-3 : tie.Need-same-length-3
 same-length-3 c = search needs
 
@@ -93,7 +77,7 @@ returns-3 : tie.Need-returns-3
 unfolding callOf
 returns-3 c =
     let m = c .before .before .before .before in
-    as-says (matched (m .before) 83 (m .match .keys1)) (c .before .before .setup .ensures)
+    as-says (called (m .before) 76 (m .match .keys2)) (c .before .before .links .ensures)
 
 same-length-4 : tie.Need-same-length-4
 same-length-4 c = search needs
@@ -102,7 +86,7 @@ returns-4 : tie.Need-returns-4
 unfolding callOf
 returns-4 c =
     let m = c .before .before .before .before in
-    as-says (matched (m .before) 76 (m .match .keys2)) (c .before .before .links .ensures)
+    as-says (called (m .before) 79 (m .match .keys3)) (c .before .before .own-clock .ensures)
 
 same-length-5 : tie.Need-same-length-5
 same-length-5 c = search needs
@@ -111,7 +95,7 @@ returns-5 : tie.Need-returns-5
 unfolding callOf
 returns-5 c =
     let m = c .before .before .before .before in
-    as-says (matched (m .before) 79 (m .match .keys3)) (c .before .before .own-clock .ensures)
+    as-says (called (m .before) 82 (m .match .keys4)) (c .before .before .receive .ensures)
 
 same-length-6 : tie.Need-same-length-6
 same-length-6 c = search needs
@@ -120,7 +104,7 @@ returns-6 : tie.Need-returns-6
 unfolding callOf
 returns-6 c =
     let m = c .before .before .before .before in
-    as-says (matched (m .before) 82 (m .match .keys4)) (c .before .before .receive .ensures)
+    as-says (called (m .before) 65 (m .match .keys5)) (c .before .before .age .ensures)
 
 same-length-7 : tie.Need-same-length-7
 same-length-7 c = search needs
@@ -129,45 +113,32 @@ returns-7 : tie.Need-returns-7
 unfolding callOf
 returns-7 c =
     let m = c .before .before .before .before in
-    as-says (matched (m .before) 65 (m .match .keys5)) (c .before .before .age .ensures)
+    as-says (called (m .before) 84 (m .match .keys6)) (c .before .before .send .ensures)
 
 same-length-8 : tie.Need-same-length-8
 same-length-8 c = search needs
 
 returns-8 : tie.Need-returns-8
-unfolding callOf
 returns-8 c =
-    let m = c .before .before .before .before in
-    as-says (matched (m .before) 84 (m .match .keys6)) (c .before .before .send .ensures)
-
-same-length-9 : tie.Need-same-length-9
-same-length-9 c = search needs
-
-returns-9 : tie.Need-returns-9
-returns-9 c =
     let r = c .before .before in
     let m = r .before .before in
-    let el = m .before in
-    let s = el .before .before .before .before .before .before .before in
+    let l = m .before in
+    let s = l .before .before .before .before .before in
     let n = m .match .rest in
     as-says
-    (call-rest (el .before .before .before .letter .result) (s .args .b) (s .args .text .now) (n .0 .0 .0 .0 .0 .1) (n .0 .0 .0 .0 .1) (n .0 .0 .0 .1) (n .0 .0 .1) (n .0 .1) (n .1)
-    ∙ called el)
+    (call-rest (l .letter .result) (s .args .b) (s .args .text .now) (n .0 .0 .0 .0 .0 .1) (n .0 .0 .0 .0 .1) (n .0 .0 .0 .1) (n .0 .0 .1) (n .0 .1) (n .1)
+    ∙ called l (l .letter .result) refl)
     (record { state = refl; prints = r .asked .ensures; lawful = s .pre .0 })
 
 pub answer-line-spec : {M : Type 1} → statement M
 answer-line-spec =
     tie.close
     (tie.spec
+    formed-requires
     refused-requires
     same-length
     returns
     letter-requires
-    count-requires
-    wanted-requires
-    refused-requires-2
-    same-length-2
-    returns-2
     setup-requires
     links-requires
     own-clock-requires
@@ -175,6 +146,8 @@ answer-line-spec =
     age-requires
     send-requires
     asked-requires
+    same-length-2
+    returns-2
     same-length-3
     returns-3
     same-length-4
@@ -186,6 +159,4 @@ answer-line-spec =
     same-length-7
     returns-7
     same-length-8
-    returns-8
-    same-length-9
-    returns-9)
+    returns-8)
