@@ -312,18 +312,18 @@ call-rest letter b s n1 n2 n3 n4 n5 n6 =
 
 -- ---- the line's form
 
-pub formed-long : (s : List ℕ) → longestLine < length s → formedOf s ≡ false
+pub formed-long : (letter : ℕ) (s : List ℕ) → longestLine < length s → formedOf letter s ≡ false
 unfolding formedOf
-formed-long s h = rw (lt-ltb longestLine (length s) h)
+formed-long letter s h = rw (lt-ltb longestLine (length s) h)
 
-pub formed-short : (s : List ℕ) → length s ≤ longestLine → eqb (countOf s) (wantedOf (letterOf s)) ≡ formedOf s
+pub formed-short : (letter : ℕ) (s : List ℕ) → length s ≤ longestLine → eqb (countOf s) (wantedOf letter) ≡ formedOf letter s
 unfolding formedOf
-formed-short s h = rw (le-ltb longestLine (length s) h)
+formed-short letter s h = rw (le-ltb longestLine (length s) h)
 
-pub answer-bad : (b : Bridge) (s : List ℕ) → formedOf s ≡ false → badLine b ≡ answerOf b s
+pub answer-bad : (b : Bridge) (s : List ℕ) → formedOf (letterOf s) s ≡ false → badLine b ≡ answerOf b s
 unfolding answerOf
 answer-bad b s e = rw e
 
-pub answer-call : (b : Bridge) (s : List ℕ) → formedOf s ≡ true → callOf (letterOf s) b s ≡ answerOf b s
+pub answer-call : (b : Bridge) (s : List ℕ) → formedOf (letterOf s) s ≡ true → callOf (letterOf s) b s ≡ answerOf b s
 unfolding answerOf
 answer-call b s e = rw e

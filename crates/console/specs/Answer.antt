@@ -242,12 +242,12 @@ abbrev pub longestLine : ℕ
 longestLine = 515
 
 -- a line that is no longer, and has as many fields as its letter wants
-unfoldable pub formedOf : List ℕ → Bool
-formedOf s = cond (ltb longestLine (length s)) false (eqb (countOf s) (wantedOf (letterOf s)))
+unfoldable pub formedOf : ℕ → List ℕ → Bool
+formedOf letter s = cond (ltb longestLine (length s)) false (eqb (countOf s) (wantedOf letter))
 
 -- the line whole
 unfoldable pub answerOf : Bridge → List ℕ → Answer
-answerOf b s = cond (formedOf s) (callOf (letterOf s) b s) (badLine b)
+answerOf b s = cond (formedOf (letterOf s) s) (callOf (letterOf s) b s) (badLine b)
 
 -- ---- what a call promises
 

@@ -116,13 +116,13 @@ pub fn wanted(letter: u8) -> usize
 }
 
 // Whether a line is no longer than any can be, and has as many fields as its letter wants.
-fn formed(text: &[u8]) -> bool
-    ensures { λ r. ⌜ r ≡ formedOf (now (text .entry)) ⌝ }
+fn formed(letter: u8, text: &[u8]) -> bool
+    ensures { λ r. ⌜ r ≡ formedOf letter (now (text .entry)) ⌝ }
 {
     if LONGEST_LINE < text.len() {
         return false;
     }
-    cutting::count(text) == wanted(cutting::letter(text))
+    cutting::count(text) == wanted(letter)
 }
 
 // A line whose call leaves the state as it is.
@@ -147,13 +147,13 @@ pub fn answer_line(b: Bridge, text: &[u8], out: &mut [u8]) -> Answered
     requires { ⌜ longest ≤ length (now out) ⌝ }
     ensures { λ r. ⌜ Says (answerOf b (now (text .entry))) r (now (out .entry)) (now (out .exit)) ⌝ }
 {
-    if !formed(text) {
+    let letter = cutting::letter(text);
+    if !formed(letter, text) {
         return Answered {
             next: b,
             len: printing::refused(out),
         };
     }
-    let letter = cutting::letter(text);
     match letter {
         b'S' => changing::setup(b, text, out),
         b'L' => changing::links(b, text, out),

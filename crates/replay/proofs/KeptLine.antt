@@ -33,5 +33,5 @@ kept-answers b line = by (ltb longestLine (length line)) refl
     by true e =
         let h = ltb-true longestLine (length line) e in
         let k : longestLine < length (take keptBytes line) = rw (length-take keptBytes line) (omega (arith, h)) in
-        sym (answer-bad b (take keptBytes line) (formed-long (take keptBytes line) k)) ∙ answer-bad b line (formed-long line h)
+        sym (answer-bad b (take keptBytes line) (formed-long _ (take keptBytes line) k)) ∙ answer-bad b line (formed-long _ line h)
     by false e = ap (answerOf b) (take-all keptBytes line (omega (arith, ltb-false longestLine (length line) e)))

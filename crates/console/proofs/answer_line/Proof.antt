@@ -1,7 +1,7 @@
 -- By the line's form, and then by its letter.
 use mathlib.Core.Path.{_≡_, refl, sym, ap, _∙_}
 use Prim.Native.Nat.{ℕ}
-use Rattle.console.specs.Answer.{callOf, answerOf}
+use Rattle.console.specs.Answer.{formedOf, callOf, answerOf}
 use Rattle.console.proofs.AnswerLaws.{as-says, answer-bad, answer-call, call-rest}
 use borrow.Author.Needs.{needs}
 use borrow.Author.Tests.{not-true, not-false}
@@ -9,14 +9,19 @@ use Rattle.console.proofs.answer_line.Statement.{statement}
 use Rattle.console.proofs.answer_line.Tie as tie
 
 -- a line that has the form of one is answered by its letter, whichever that is
-called : (c : tie.After-letter) (letter : ℕ) → c .letter .result ≡ letter
+called : (c : tie.Else1) (letter : ℕ) → c .before .before .letter .result ≡ letter
     → let s = c .before .before .before .before .before in callOf letter (s .args .b) (s .args .text .now) ≡ answerOf (s .args .b) (s .args .text .now)
 called c letter e =
-    let f = c .before .before in
-    let s = f .before .before .before in
+    let f = c .before in
+    let l = f .before in
+    let s = l .before .before .before in
     let b = s .args .b in
     let t = s .args .text .now in
-    ap (λ (x : ℕ). callOf x b t) (sym e ∙ c .letter .ensures) ∙ answer-call b t (sym (f .formed .ensures) ∙ not-false _ (c .before .if1 .left))
+    let formed = ap (λ (x : ℕ). formedOf x t) (sym (l .letter .ensures)) ∙ sym (f .formed .ensures) ∙ not-false _ (c .if1 .left) in
+    ap (λ (x : ℕ). callOf x b t) (sym e ∙ l .letter .ensures) ∙ answer-call b t formed
+
+letter-requires : tie.Need-letter-requires
+letter-requires c κs = search needs
 
 formed-requires : tie.Need-formed-requires
 formed-requires c κs = search needs
@@ -32,13 +37,12 @@ returns c =
     let r = c .before .before in
     let t = r .before .before in
     let f = t .before in
-    let s = f .before .before .before in
+    let l = f .before in
+    let s = l .before .before .before in
+    let text = s .args .text .now in
     as-says
-    (answer-bad (s .args .b) (s .args .text .now) (sym (f .formed .ensures) ∙ not-true _ (t .if1 .taken)))
+    (answer-bad (s .args .b) text (ap (λ (x : ℕ). formedOf x text) (sym (l .letter .ensures)) ∙ sym (f .formed .ensures) ∙ not-true _ (t .if1 .taken)))
     (record { state = refl; prints = r .refused .ensures; lawful = s .pre .0 })
-
-letter-requires : tie.Need-letter-requires
-letter-requires c κs = search needs
 
 setup-requires : tie.Need-setup-requires
 setup-requires c κs = search needs
@@ -122,23 +126,24 @@ returns-8 : tie.Need-returns-8
 returns-8 c =
     let r = c .before .before in
     let m = r .before .before in
-    let l = m .before in
-    let s = l .before .before .before .before .before in
+    let el = m .before in
+    let l = el .before .before in
+    let s = el .before .before .before .before .before in
     let n = m .match .rest in
     as-says
     (call-rest (l .letter .result) (s .args .b) (s .args .text .now) (n .0 .0 .0 .0 .0 .1) (n .0 .0 .0 .0 .1) (n .0 .0 .0 .1) (n .0 .0 .1) (n .0 .1) (n .1)
-    ∙ called l (l .letter .result) refl)
+    ∙ called el (l .letter .result) refl)
     (record { state = refl; prints = r .asked .ensures; lawful = s .pre .0 })
 
 pub answer-line-spec : {M : Type 1} → statement M
 answer-line-spec =
     tie.close
     (tie.spec
+    letter-requires
     formed-requires
     refused-requires
     same-length
     returns
-    letter-requires
     setup-requires
     links-requires
     own-clock-requires
