@@ -2,14 +2,14 @@
 use mathlib.Core.Path.{_≡_, refl, sym, ap, _∙_, subst}
 use mathlib.Core.Bool.{Bool, true, false, not, cond}
 use mathlib.Core.List.{List, _++_}
-use Prim.Native.Nat.{ℕ, zero, suc, _+_, _*_, _^_, _≤_}
+use Prim.Native.Nat.{ℕ, zero, suc, _+_, _*_, _^_, _<_, _≤_}
 use native.Mathlib.Omega.{arith}
 use lib.ListN.{length, take, drop, length-take}
-use lib.Dec.{T, ltb}
+use lib.Dec.{T, ltb, eqb}
 use lib.Ieee.{Float, inf, isNan, Format, binary64, prec, emax, low, round, units, odd}
 use lib.IntN.{ℤ}
 use denote.Ref.{RefT, now}
-use borrow.Author.Tests.{eq-eqb, ne-eqb}
+use borrow.Author.Tests.{lt-ltb, le-ltb, ne-eqb}
 use Rattle.samples.specs.declared.Samples.{Samples}
 use Rattle.samples.specs.declared.Samples.the-variants.{Empty, One, Two}
 use Rattle.relay.specs.Drift.{ppmOf, driftOf}
@@ -55,7 +55,7 @@ use Rattle.words.specs.declared.Rank.{Rank}
 use Rattle.words.specs.declared.Rank.the-variants.{Is as rank, Bad as noRank}
 use Rattle.words.specs.declared.Parts.{Parts}
 use Rattle.words.specs.declared.Parts.the-variants.{Are as parts, Bad as noParts}
-use Rattle.console.specs.Answer.{Answer, says, badText, badLine, doneSays, untouched, setupBy, linkedSays, linksBy, ownBy, receiveBy, ageBy, sentSays, sendBy, driftText, driftBy, readText, readBy, writeBy, pieceOf, betterBytes, betterBy, wantedOf, askedText, callOf, answerOf, Says}
+use Rattle.console.specs.Answer.{Answer, says, badText, badLine, doneSays, untouched, setupBy, linkedSays, linksBy, ownBy, receiveBy, ageBy, sentSays, sendBy, driftText, driftBy, readText, readBy, writeBy, pieceOf, betterBytes, betterBy, wantedOf, askedText, callOf, longestLine, formedOf, answerOf, Says}
 use Rattle.console.specs.declared.Answered.{Answered}
 use Rattle.words.proofs.SaidLaws.{line-most}
 
@@ -310,10 +310,20 @@ unfolding callOf
 call-rest letter b s n1 n2 n3 n4 n5 n6 =
     rw (ne-eqb letter 83 n1, ne-eqb letter 76 n2, ne-eqb letter 79 n3, ne-eqb letter 82 n4, ne-eqb letter 65 n5, ne-eqb letter 84 n6)
 
-pub answer-bad : (b : Bridge) (s : List ℕ) → (countOf s ≡ wantedOf (letterOf s) → ⊥) → badLine b ≡ answerOf b s
-unfolding answerOf
-answer-bad b s n = rw (ne-eqb (countOf s) (wantedOf (letterOf s)) n)
+-- ---- the line's form
 
-pub answer-call : (b : Bridge) (s : List ℕ) → countOf s ≡ wantedOf (letterOf s) → callOf (letterOf s) b s ≡ answerOf b s
+pub formed-long : (letter : ℕ) (s : List ℕ) → longestLine < length s → formedOf letter s ≡ false
+unfolding formedOf
+formed-long letter s h = rw (lt-ltb longestLine (length s) h)
+
+pub formed-short : (letter : ℕ) (s : List ℕ) → length s ≤ longestLine → eqb (countOf s) (wantedOf letter) ≡ formedOf letter s
+unfolding formedOf
+formed-short letter s h = rw (le-ltb longestLine (length s) h)
+
+pub answer-bad : (b : Bridge) (s : List ℕ) → formedOf (letterOf s) s ≡ false → badLine b ≡ answerOf b s
 unfolding answerOf
-answer-call b s e = rw (eq-eqb (countOf s) (wantedOf (letterOf s)) e)
+answer-bad b s e = rw e
+
+pub answer-call : (b : Bridge) (s : List ℕ) → formedOf (letterOf s) s ≡ true → callOf (letterOf s) b s ≡ answerOf b s
+unfolding answerOf
+answer-call b s e = rw e

@@ -4,7 +4,7 @@ use mathlib.Core.Path.{_≡_}
 use mathlib.Core.Bool.{Bool, true, false, cond}
 use mathlib.Core.List.{List, []}
 use lib.ListN.{length, take, drop, replicate}
-use lib.Dec.{eqb}
+use lib.Dec.{ltb, eqb}
 use lib.Ieee.{toBits, binary64}
 use Rattle.numbers.specs.Digits.{digits}
 use Rattle.relay.specs.declared.Drift.{Drift}
@@ -230,9 +230,18 @@ callOf letter b s =
     (cond (eqb letter 84) (sendLine b s)
     (says b (askedText letter b s)))))))
 
--- the line whole: its letter wants as many fields as there are
+-- the longest line that can be one, B with two frames of 128 bytes: the letter, and twice a space and 256 digits.
+-- The others have at most, with every number at its 16 digits: S 230, L 18, O 69, R 292, A 18, C 1, T 52, D 18, F 258, W 186
+abbrev pub longestLine : ℕ
+longestLine = 515
+
+-- a line that is no longer, and has as many fields as its letter wants
+unfoldable pub formedOf : ℕ → List ℕ → Bool
+formedOf letter s = cond (ltb longestLine (length s)) false (eqb (countOf s) (wantedOf letter))
+
+-- the line whole
 unfoldable pub answerOf : Bridge → List ℕ → Answer
-answerOf b s = cond (eqb (countOf s) (wantedOf (letterOf s))) (callOf (letterOf s) b s) (badLine b)
+answerOf b s = cond (formedOf (letterOf s) s) (callOf (letterOf s) b s) (badLine b)
 
 -- ---- what a call promises
 

@@ -7,7 +7,7 @@ ghost use Prim.Native.Nat.{_≤_};
 ghost use lib.ListN.{length};
 ghost use Rattle.bridge.specs.State.{Lawful};
 ghost use Rattle.words.specs.Said.{longest, Prints};
-ghost use Rattle.console.specs.Answer.{wantedOf, askedText, answerOf, Says};
+ghost use Rattle.console.specs.Answer.{wantedOf, formedOf, askedText, answerOf, Says};
 use bridge::Bridge;
 use words::cutting;
 use words::printing;
@@ -41,6 +41,16 @@ pub fn wanted(letter: u8) -> usize
     }
 }
 
+// Whether a line is no longer than any can be, and has as many fields as its letter wants.
+fn formed(letter: u8, text: &[u8]) -> bool
+    ensures { λ r. ⌜ r ≡ formedOf letter (now (text .entry)) ⌝ }
+{
+    if LONGEST_LINE < text.len() {
+        return false;
+    }
+    cutting::count(text) == wanted(letter)
+}
+
 // A line whose call leaves the state as it is.
 fn asked(b: Bridge, letter: u8, text: &[u8], out: &mut [u8]) -> usize
     requires { ⌜ Lawful b ⌝ }
@@ -64,7 +74,7 @@ pub fn answer_line(b: Bridge, text: &[u8], out: &mut [u8]) -> Answered
     ensures { λ r. ⌜ Says (answerOf b (now (text .entry))) r (now (out .entry)) (now (out .exit)) ⌝ }
 {
     let letter = cutting::letter(text);
-    if cutting::count(text) != wanted(letter) {
+    if !formed(letter, text) {
         return Answered {
             next: b,
             len: printing::refused(out),

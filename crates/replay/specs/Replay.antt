@@ -1,23 +1,31 @@
 -- What the replay keeps from read to read.
 use mathlib.Core.Path.{_≡_}
-use Prim.Native.Nat.{ℕ, _≤_}
-use lib.ListN.{length}
+use mathlib.Core.List.{List, _++_}
+use Prim.Native.Nat.{ℕ, _+_, _≤_}
+use lib.ListN.{length, take, drop}
 use Rattle.bridge.specs.State.{Lawful}
+use Rattle.hexline.specs.Line.{untilNewline}
+use Rattle.console.specs.Answer.{longestLine}
 use Rattle.replay.specs.declared.Session.{Session}
-use Rattle.replay.specs.declared.Stop.{Stop}
 
 -- what is kept of a line: one byte more than the longest line has
 abbrev pub keptBytes : ℕ
-keptBytes = 516
+keptBytes = longestLine + 1
 
--- reading that began at `from` stopped no earlier and within so many bytes, and keeps no more than it may
-pub record Stopped (from count : ℕ) (stop : Stop) : Type 0 where
-  pub later : from ≤ stop .at
-  pub within : stop .at ≤ count
-  pub short : stop .len ≤ keptBytes
+-- and the room for it and its newline
+abbrev pub textBytes : ℕ
+textBytes = keptBytes + 1
 
--- a lawful bridge, and a line that is kept within its room
+-- where the line that starts at `from` ends: at a newline, or with the bytes
+abbrev pub lineEnd : List ℕ → ℕ → ℕ
+lineEnd bytes from = from + length (untilNewline (drop from bytes))
+
+-- what is kept of a line once more of it is read
+abbrev pub keptOf : List ℕ → List ℕ → List ℕ
+keptOf was more = take keptBytes (was ++ more)
+
+-- what is kept from read to read: a lawful bridge, and a line that is kept within its room
 pub record Ready (s : Session) : Type 0 where
   pub lawful : Lawful (s .bridge)
-  pub room : length (s .text) ≡ keptBytes
+  pub room : length (s .text) ≡ textBytes
   pub short : s .len ≤ keptBytes

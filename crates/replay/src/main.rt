@@ -1,10 +1,11 @@
 // The replay program: one call of the library for each line of text, and one line printed for each.
 ghost use mathlib.Core.Path.{_≡_};
 ghost use Prim.Native.Nat.{_+_, _≤_};
-ghost use lib.ListN.{length};
+ghost use lib.ListN.{length, take};
 ghost use Rattle.bridge.specs.State.{Lawful};
+ghost use Rattle.bridge.specs.Setup.{noBridge};
 ghost use Rattle.words.specs.Said.{longest};
-ghost use Rattle.replay.specs.Replay.{keptBytes, Stopped, Ready};
+ghost use Rattle.replay.specs.Replay.{keptBytes, textBytes, lineEnd, keptOf, Ready};
 use bridge::Bridge;
 use frame::Mac;
 use frame::Precedence;
@@ -17,21 +18,23 @@ const NEWLINE: u8 = b'\n';
 // What is kept of a line: one byte more than the longest line has, so that the start of a longer one is no line either.
 const KEPT: usize = console::LONGEST_LINE + 1;
 
-// What is kept from read to read: the bridge, and the line as far as it is read.
+// What is kept from read to read: the bridge, and the line as far as it is read, with room for its newline.
 struct Session {
     bridge: Bridge,
-    text: [u8; 516],
+    text: [u8; 517],
     len: usize,
 }
 
-// Where reading stopped, and how much is kept of the line.
-struct Stop {
-    at: usize,
-    len: usize,
+// The state after many lines, how much of the output is filled then, and where the line after them starts.
+struct Lines {
+    next: Bridge,
+    filled: usize,
+    rest: usize,
 }
 
 // The bridge before the first line: what a refused Setup hands back.
 fn start() -> Bridge
+    ensures { λ r. ⌜ r ≡ noBridge ⌝ }
     ensures { λ r. ⌜ Lawful r ⌝ }
 {
     let nobody = Mac(0, 0, 0, 0, 0, 0);
@@ -46,26 +49,35 @@ fn start() -> Bridge
     refused.next
 }
 
-// Keeps the bytes from `from` on, up to a newline or the end.
-fn kept(text: &mut [u8; 516], len: usize, bytes: &[u8], from: usize) -> Stop
-    requires { ⌜ (len ≤ keptBytes) × (from ≤ length (now bytes)) ⌝ }
-    ensures { λ r. ⌜ Stopped from (length (now (bytes .entry))) r ⌝ }
-    ensures { λ _. ⌜ length (now (text .exit)) ≡ length (now (text .entry)) ⌝ }
+// Where the line that starts at `from` ends: at a newline, or with the bytes.
+fn line_end(bytes: &[u8], from: usize) -> usize
+    ensures { λ r. ⌜ r ≡ lineEnd (now (bytes .entry)) from ⌝ }
 {
-    let mut n = len;
     let mut i = from;
     while i < bytes.len() {
-        let c = bytes[i];
-        if c == NEWLINE {
-            return Stop { at: i, len: n };
-        }
-        if n < KEPT {
-            text[n] = c;
-            n += 1;
+        if bytes[i] == NEWLINE {
+            return i;
         }
         i += 1;
     }
-    Stop { at: i, len: n }
+    i
+}
+
+// Keeps more of the line of which `len` bytes are kept, as far as there is room; how many are kept then.
+fn kept(text: &mut [u8; 517], len: usize, more: &[u8]) -> usize
+    requires { ⌜ (len ≤ keptBytes) × (length (now text) ≡ textBytes) ⌝ }
+    ensures { λ r. ⌜ r ≡ length (keptOf (take len (now (text .entry))) (now (more .entry))) ⌝ }
+    ensures { λ r. ⌜ take r (now (text .exit)) ≡ keptOf (take len (now (text .entry))) (now (more .entry)) ⌝ }
+    ensures { λ _. ⌜ length (now (text .exit)) ≡ textBytes ⌝ }
+{
+    let mut n = len;
+    let mut i: usize = 0;
+    while n < KEPT && i < more.len() {
+        text[n] = more[i];
+        n += 1;
+        i += 1;
+    }
+    n
 }
 
 // Room for one more line in the output: where it starts, once what was full is written.
@@ -80,33 +92,63 @@ fn room(out: &[u8], filled: usize) -> usize
     0
 }
 
+// Answers every line that stands whole in the bytes from `from` on.
+fn whole_lines(b: Bridge, bytes: &[u8], from: usize, out: &mut [u8], filled: usize) -> Lines
+    requires { ⌜ Lawful b ⌝ }
+    requires { ⌜ (filled ≤ length (now out)) × (longest ≤ length (now out)) ⌝ }
+    requires { ⌜ from ≤ length (now bytes) ⌝ }
+    ensures { λ r. ⌜ Lawful (r .next) ⌝ }
+    ensures { λ r. ⌜ (r .filled ≤ length (now (out .exit))) × (r .rest ≤ length (now (bytes .entry))) ⌝ }
+{
+    let mut next = b;
+    let mut n = filled;
+    let mut start = from;
+    let mut end = line_end(bytes, start);
+    while end < bytes.len() {
+        let place = room(out, n);
+        let answer_end = place + words::LONGEST_ANSWER;
+        let said = console::answer_line(next, &bytes[start..end], &mut out[place..answer_end]);
+        next = said.next;
+        n = place + said.len;
+        start = end + 1;
+        end = line_end(bytes, start);
+    }
+    Lines {
+        next: next,
+        filled: n,
+        rest: start,
+    }
+}
+
 // Answers every line that ends in these bytes and writes the answers; what is left is the start of a line.
 fn fed(s: Session, bytes: &[u8], out: &mut [u8]) -> Session
     requires { ⌜ Ready s ⌝ }
     requires { ⌜ longest ≤ length (now out) ⌝ }
     ensures { λ r. ⌜ Ready r ⌝ }
 {
-    let mut b = s.bridge;
+    let b = s.bridge;
     let mut text = s.text;
-    let mut filled: usize = 0;
-    let first = kept(&mut text, s.len, bytes, 0);
-    let mut at = first.at;
-    let mut len = first.len;
-    while at < bytes.len() {
-        let from = room(out, filled);
-        let end = from + words::LONGEST_ANSWER;
-        let answered = console::answer_line(b, &text[..len], &mut out[from..end]);
-        b = answered.next;
-        filled = from + answered.len;
-        let stop = kept(&mut text, 0, bytes, at + 1);
-        at = stop.at;
-        len = stop.len;
+    let end = line_end(bytes, 0);
+    let len = kept(&mut text, s.len, &bytes[..end]);
+    if end == bytes.len() {
+        return Session {
+            bridge: b,
+            text: text,
+            len: len,
+        };
     }
+    text[len] = NEWLINE;
+    let first = whole_lines(b, &text[..len + 1], 0, out, 0);
+    let lines = whole_lines(first.next, bytes, end + 1, out, first.filled);
+    let filled = lines.filled;
     io::write_all(STDOUT_FILENO, &out[..filled]);
+    let next = lines.next;
+    let rest = lines.rest;
+    let left = kept(&mut text, 0, &bytes[rest..]);
     Session {
-        bridge: b,
+        bridge: next,
         text: text,
-        len: len,
+        len: left,
     }
 }
 
@@ -114,7 +156,7 @@ fn fed(s: Session, bytes: &[u8], out: &mut [u8]) -> Session
 fn main() {
     let mut s = Session {
         bridge: start(),
-        text: [0u8; 516],
+        text: [0u8; 517],
         len: 0,
     };
     let mut input = io::large_buffer();

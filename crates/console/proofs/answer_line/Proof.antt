@@ -1,20 +1,30 @@
--- By the letter and the number of fields.
-use mathlib.Core.Path.{refl, sym, ap, _∙_}
+-- By the line's form, and then by its letter.
+use mathlib.Core.Path.{_≡_, refl, sym, ap, _∙_}
 use Prim.Native.Nat.{ℕ}
-use Rattle.console.specs.Answer.{wantedOf, callOf}
+use Rattle.console.specs.Answer.{formedOf, callOf, answerOf}
 use Rattle.console.proofs.AnswerLaws.{as-says, answer-bad, answer-call, call-rest}
 use borrow.Author.Needs.{needs}
+use borrow.Author.Tests.{not-true, not-false}
 use Rattle.console.proofs.answer_line.Statement.{statement}
 use Rattle.console.proofs.answer_line.Tie as tie
+
+-- a line that has the form of one is answered by its letter, whichever that is
+called : (c : tie.Else1) (letter : ℕ) → c .before .before .letter .result ≡ letter
+    → let s = c .before .before .before .before .before in callOf letter (s .args .b) (s .args .text .now) ≡ answerOf (s .args .b) (s .args .text .now)
+called c letter e =
+    let f = c .before in
+    let l = f .before in
+    let s = l .before .before .before in
+    let b = s .args .b in
+    let t = s .args .text .now in
+    let formed = ap (λ (x : ℕ). formedOf x t) (sym (l .letter .ensures)) ∙ sym (f .formed .ensures) ∙ not-false _ (c .if1 .left) in
+    ap (λ (x : ℕ). callOf x b t) (sym e ∙ l .letter .ensures) ∙ answer-call b t formed
 
 letter-requires : tie.Need-letter-requires
 letter-requires c κs = search needs
 
-count-requires : tie.Need-count-requires
-count-requires c κs = search needs
-
-wanted-requires : tie.Need-wanted-requires
-wanted-requires c κs = search needs
+formed-requires : tie.Need-formed-requires
+formed-requires c κs = search needs
 
 refused-requires : tie.Need-refused-requires
 refused-requires c κs = search needs
@@ -26,13 +36,12 @@ returns : tie.Need-returns
 returns c =
     let r = c .before .before in
     let t = r .before .before in
-    let w = t .before in
-    let k = w .before in
-    let l = k .before in
+    let f = t .before in
+    let l = f .before in
     let s = l .before .before .before in
+    let text = s .args .text .now in
     as-says
-    (answer-bad (s .args .b) (s .args .text .now)
-    (λ e. t .if1 .taken (k .count .ensures ∙ e ∙ sym (w .wanted .ensures ∙ ap wantedOf (l .letter .ensures)))))
+    (answer-bad (s .args .b) text (ap (λ (x : ℕ). formedOf x text) (sym (l .letter .ensures)) ∙ sym (f .formed .ensures) ∙ not-true _ (t .if1 .taken)))
     (record { state = refl; prints = r .refused .ensures; lawful = s .pre .0 })
 
 setup-requires : tie.Need-setup-requires
@@ -62,17 +71,8 @@ same-length-2 c = search needs
 returns-2 : tie.Need-returns-2
 unfolding callOf
 returns-2 c =
-    let r = c .before .before in
-    let m = r .before .before in
-    let el = m .before in
-    let w = el .before in
-    let k = w .before in
-    let l = k .before in
-    let s = l .before .before .before in
-    let b = s .args .b in
-    let t = s .args .text .now in
-    let same = sym (k .count .ensures) ∙ el .if1 .left ∙ w .wanted .ensures ∙ ap wantedOf (l .letter .ensures) in
-    as-says (ap (λ (x : ℕ). callOf x b t) (sym (m .match .keys1) ∙ l .letter .ensures) ∙ answer-call b t same) (r .setup .ensures)
+    let m = c .before .before .before .before in
+    as-says (called (m .before) 83 (m .match .keys1)) (c .before .before .setup .ensures)
 
 same-length-3 : tie.Need-same-length-3
 same-length-3 c = search needs
@@ -80,17 +80,8 @@ same-length-3 c = search needs
 returns-3 : tie.Need-returns-3
 unfolding callOf
 returns-3 c =
-    let r = c .before .before in
-    let m = r .before .before in
-    let el = m .before in
-    let w = el .before in
-    let k = w .before in
-    let l = k .before in
-    let s = l .before .before .before in
-    let b = s .args .b in
-    let t = s .args .text .now in
-    let same = sym (k .count .ensures) ∙ el .if1 .left ∙ w .wanted .ensures ∙ ap wantedOf (l .letter .ensures) in
-    as-says (ap (λ (x : ℕ). callOf x b t) (sym (m .match .keys2) ∙ l .letter .ensures) ∙ answer-call b t same) (r .links .ensures)
+    let m = c .before .before .before .before in
+    as-says (called (m .before) 76 (m .match .keys2)) (c .before .before .links .ensures)
 
 same-length-4 : tie.Need-same-length-4
 same-length-4 c = search needs
@@ -98,17 +89,8 @@ same-length-4 c = search needs
 returns-4 : tie.Need-returns-4
 unfolding callOf
 returns-4 c =
-    let r = c .before .before in
-    let m = r .before .before in
-    let el = m .before in
-    let w = el .before in
-    let k = w .before in
-    let l = k .before in
-    let s = l .before .before .before in
-    let b = s .args .b in
-    let t = s .args .text .now in
-    let same = sym (k .count .ensures) ∙ el .if1 .left ∙ w .wanted .ensures ∙ ap wantedOf (l .letter .ensures) in
-    as-says (ap (λ (x : ℕ). callOf x b t) (sym (m .match .keys3) ∙ l .letter .ensures) ∙ answer-call b t same) (r .own-clock .ensures)
+    let m = c .before .before .before .before in
+    as-says (called (m .before) 79 (m .match .keys3)) (c .before .before .own-clock .ensures)
 
 same-length-5 : tie.Need-same-length-5
 same-length-5 c = search needs
@@ -116,17 +98,8 @@ same-length-5 c = search needs
 returns-5 : tie.Need-returns-5
 unfolding callOf
 returns-5 c =
-    let r = c .before .before in
-    let m = r .before .before in
-    let el = m .before in
-    let w = el .before in
-    let k = w .before in
-    let l = k .before in
-    let s = l .before .before .before in
-    let b = s .args .b in
-    let t = s .args .text .now in
-    let same = sym (k .count .ensures) ∙ el .if1 .left ∙ w .wanted .ensures ∙ ap wantedOf (l .letter .ensures) in
-    as-says (ap (λ (x : ℕ). callOf x b t) (sym (m .match .keys4) ∙ l .letter .ensures) ∙ answer-call b t same) (r .receive .ensures)
+    let m = c .before .before .before .before in
+    as-says (called (m .before) 82 (m .match .keys4)) (c .before .before .receive .ensures)
 
 same-length-6 : tie.Need-same-length-6
 same-length-6 c = search needs
@@ -134,17 +107,8 @@ same-length-6 c = search needs
 returns-6 : tie.Need-returns-6
 unfolding callOf
 returns-6 c =
-    let r = c .before .before in
-    let m = r .before .before in
-    let el = m .before in
-    let w = el .before in
-    let k = w .before in
-    let l = k .before in
-    let s = l .before .before .before in
-    let b = s .args .b in
-    let t = s .args .text .now in
-    let same = sym (k .count .ensures) ∙ el .if1 .left ∙ w .wanted .ensures ∙ ap wantedOf (l .letter .ensures) in
-    as-says (ap (λ (x : ℕ). callOf x b t) (sym (m .match .keys5) ∙ l .letter .ensures) ∙ answer-call b t same) (r .age .ensures)
+    let m = c .before .before .before .before in
+    as-says (called (m .before) 65 (m .match .keys5)) (c .before .before .age .ensures)
 
 same-length-7 : tie.Need-same-length-7
 same-length-7 c = search needs
@@ -152,17 +116,8 @@ same-length-7 c = search needs
 returns-7 : tie.Need-returns-7
 unfolding callOf
 returns-7 c =
-    let r = c .before .before in
-    let m = r .before .before in
-    let el = m .before in
-    let w = el .before in
-    let k = w .before in
-    let l = k .before in
-    let s = l .before .before .before in
-    let b = s .args .b in
-    let t = s .args .text .now in
-    let same = sym (k .count .ensures) ∙ el .if1 .left ∙ w .wanted .ensures ∙ ap wantedOf (l .letter .ensures) in
-    as-says (ap (λ (x : ℕ). callOf x b t) (sym (m .match .keys6) ∙ l .letter .ensures) ∙ answer-call b t same) (r .send .ensures)
+    let m = c .before .before .before .before in
+    as-says (called (m .before) 84 (m .match .keys6)) (c .before .before .send .ensures)
 
 same-length-8 : tie.Need-same-length-8
 same-length-8 c = search needs
@@ -172,18 +127,12 @@ returns-8 c =
     let r = c .before .before in
     let m = r .before .before in
     let el = m .before in
-    let w = el .before in
-    let k = w .before in
-    let l = k .before in
-    let s = l .before .before .before in
-    let b = s .args .b in
-    let t = s .args .text .now in
-    let same = sym (k .count .ensures) ∙ el .if1 .left ∙ w .wanted .ensures ∙ ap wantedOf (l .letter .ensures) in
+    let l = el .before .before in
+    let s = el .before .before .before .before .before in
     let n = m .match .rest in
     as-says
-    (call-rest (l .letter .result) b t (n .0 .0 .0 .0 .0 .1) (n .0 .0 .0 .0 .1) (n .0 .0 .0 .1) (n .0 .0 .1) (n .0 .1) (n .1)
-    ∙ ap (λ (x : ℕ). callOf x b t) (l .letter .ensures)
-    ∙ answer-call b t same)
+    (call-rest (l .letter .result) (s .args .b) (s .args .text .now) (n .0 .0 .0 .0 .0 .1) (n .0 .0 .0 .0 .1) (n .0 .0 .0 .1) (n .0 .0 .1) (n .0 .1) (n .1)
+    ∙ called el (l .letter .result) refl)
     (record { state = refl; prints = r .asked .ensures; lawful = s .pre .0 })
 
 pub answer-line-spec : {M : Type 1} → statement M
@@ -191,8 +140,7 @@ answer-line-spec =
     tie.close
     (tie.spec
     letter-requires
-    count-requires
-    wanted-requires
+    formed-requires
     refused-requires
     same-length
     returns

@@ -1,152 +1,128 @@
--- Line by line: the state stays lawful, and what is kept and filled stays within its room.
-use mathlib.Core.Path.{_≡_, refl, sym, _∙_}
-use Prim.Native.Nat.{_+_, _-_, _^_, _<_, _≤_}
-use native.Mathlib.Nat.{add-sub-cancel-left}
+-- What is kept of the line that was cut off, then line by line, then what is kept of the next.
+use mathlib.Core.Path.{_≡_, sym, _∙_}
+use Prim.Native.Nat.{_+_, _^_, _<_, _≤_}
 use native.Mathlib.Omega.{arith}
 use borrow.Author.Needs.{needs}
-use borrow.Rule.Slice.PartMut.{same-len-mid}
-use lib.ListN.{length, take, drop, length-drop}
+use lib.ListN.{length, set, length-take, length-set}
 use lib.Seq.{length-take-le}
-use Rattle.bridge.specs.State.{Lawful}
-use Rattle.words.specs.Said.{longest}
-use Rattle.replay.specs.Replay.{keptBytes}
+use Rattle.hexline.specs.Line.{newline as newlineByte}
+use Rattle.replay.specs.Replay.{keptBytes, textBytes}
+use Rattle.hexline.proofs.LineLaws.{stop-within}
 use Rattle.replay.proofs.fed.Statement.{statement}
 use Rattle.replay.proofs.fed.Tie as tie
 
-abbrev Inv-loop : tie.InvT-loop
-Inv-loop bytes out₀ b₀ text₀ filled₀ at₀ len₀ out b text filled at len =
-    Lawful b × (length text ≡ keptBytes) × (length out ≡ length out₀) × (longest ≤ length out₀) × (filled ≤ length out) × (at ≤ length bytes) × (len ≤ keptBytes)
-    × (length out₀ < 2 ^ 64) × (length bytes < 2 ^ 64)
+-- the first line ends within the bytes
+ends : (c : tie.After-line-end) → c .line-end .result ≤ length (c .before .before .before .before .before .args .bytes .now)
+ends c =
+    let s = c .before .before .before .before .before in
+    omega (arith, c .line-end .ensures, stop-within (s .args .bytes .now) 0 (omega arith))
 
-abbrev μ-loop : tie.MeasureT-loop
-μ-loop bytes out₀ b₀ text₀ filled₀ at₀ len₀ out b text filled at len = length bytes - at
+-- and no more is kept of it than there is room for
+short : (c : tie.After-kept) → c .kept .result ≤ keptBytes
+short c = omega (arith, rw length-take at (c .kept .ensures .0))
 
--- the loop's head, once there is room for an answer
-abbrev at-room : tie.After-room Inv-loop μ-loop → tie.At-loop Inv-loop μ-loop
-at-room c = c .before .before .before
+-- with its newline
+text-long : (c : tie.After-kept) → length (set (c .kept .last .0) (c .kept .result) newlineByte) ≡ textBytes
+text-long c = length-set (c .kept .last .0) (c .kept .result) newlineByte ∙ c .kept .ensures .1 .1
 
-kept-requires : tie.Need-kept-requires Inv-loop μ-loop
-kept-requires c κs = (c .before .before .before .before .before .pre .0 .short, omega arith)
+-- where it ends before the bytes do, its newline is one of them
+newline : (c : tie.Else1) → c .before .before .before .before .line-end .result + 1 ≤ length (c .before .before .before .before .before .before .before .before .before .args .bytes .now)
+newline c = omega (arith, c .if1 .left, ends (c .before .before .before .before))
 
-loop-holds : tie.Need-loop-holds Inv-loop μ-loop
-loop-holds c =
-    let s = c .before .before .before .before .before .before in
-    (s .pre .0 .lawful, c .kept .ensures .1 ∙ s .pre .0 .room, refl, s .pre .1, omega arith, c .kept .ensures .0 .within, c .kept .ensures .0 .short, omega arith, omega arith)
+bytes-fit : (c : tie.After-line-end) → length (c .before .before .before .before .before .args .bytes .now) < 2 ^ 64
+bytes-fit c = omega arith
 
-room-requires : tie.Need-room-requires Inv-loop μ-loop
-room-requires c κs = let l = c .before .before .loop in omega (arith, l .inv)
+line-end-requires : tie.Need-line-end-requires
+line-end-requires c κs = search needs
 
-add-end : tie.Need-add-end Inv-loop μ-loop
-add-end c = omega (arith, c .room .ensures, at-room c .loop .inv)
+slice-aggregate-kept : tie.Need-slice-aggregate-kept
+slice-aggregate-kept c = sym (length-take-le _ _ (ends (c .before .before)))
 
-array-share-prefix-text : tie.Need-array-share-prefix-text Inv-loop μ-loop
-array-share-prefix-text c = let l = at-room c .loop in omega (arith, l .inv .6, l .inv .1)
+kept-requires : tie.Need-kept-requires
+kept-requires c κs = search needs
 
-slice-aggregate-answer-line : tie.Need-slice-aggregate-answer-line Inv-loop μ-loop
-slice-aggregate-answer-line c =
-    let l = at-room (c .before) .loop in
-    sym (length-take-le (l .len) (l .text) (omega (arith, l .inv)))
+returns : tie.Need-returns
+returns c =
+    let s = c .before .before .before .before .before .before .before .before .before in
+    record { lawful = s .pre .0 .lawful; room = c .before .kept .ensures .1 .1; short = short (c .before) }
 
-sub-answer-line : tie.Need-sub-answer-line Inv-loop μ-loop
-sub-answer-line c = omega arith
+array-write-text : tie.Need-array-write-text
+array-write-text c = omega (arith, short (c .before))
 
-part-answer-line-start : tie.Need-part-answer-line-start Inv-loop μ-loop
-part-answer-line-start c = omega arith
+add-text : tie.Need-add-text
+add-text c = omega (arith, short (c .before))
 
-part-answer-line-end : tie.Need-part-answer-line-end Inv-loop μ-loop
-part-answer-line-end c = omega (arith, c .before .room .ensures)
+array-share-prefix-text : tie.Need-array-share-prefix-text
+array-share-prefix-text c = omega (arith, short (c .before), text-long (c .before))
 
-answer-line-requires : tie.Need-answer-line-requires Inv-loop μ-loop
-answer-line-requires c κs =
-    let r = c .before .before in
-    let n = r .room .result in
-    let out = at-room r .loop .out in
-    let long : length (take (n + longest - n) (drop n out)) ≡ longest =
-    rw (add-sub-cancel-left n longest) (length-take-le longest (drop n out) (rw (length-drop n out) (omega (arith, r .room .ensures)))) in
-    (at-room r .loop .inv .0, omega (arith, long))
+slice-aggregate-whole-lines : tie.Need-slice-aggregate-whole-lines
+slice-aggregate-whole-lines c =
+    let k = c .before .before in
+    sym (length-take-le _ _ (omega (arith, short k, text-long k)))
 
-add-filled : tie.Need-add-filled Inv-loop μ-loop
-add-filled c =
-    let a = c .before .before .before .before in
-    let r = a .before .before .before in
-    omega (arith, r .room .ensures, at-room r .loop .inv, a .answer-line .ensures .prints .fits)
+whole-lines-requires : tie.Need-whole-lines-requires
+whole-lines-requires c κs = search needs
 
-add-kept : tie.Need-add-kept Inv-loop μ-loop
-add-kept c =
-    let r = c .before .before .before .before .before .before .before .before in
-    let i = r .before .before in
-    omega (arith, at-room r .loop .inv, i .loop-test .taken)
+add-whole-lines : tie.Need-add-whole-lines
+add-whole-lines c =
+    let e = c .before .before .before .before .before in
+    omega (arith, newline e, bytes-fit (e .before .before .before .before))
 
-kept-requires-2 : tie.Need-kept-requires-2 Inv-loop μ-loop
-kept-requires-2 c κs =
-    let r = c .before .before .before .before .before .before .before .before in
-    let i = r .before .before in
-    (omega arith, omega (arith, i .loop-test .taken))
+whole-lines-requires-2 : tie.Need-whole-lines-requires-2
+whole-lines-requires-2 c κs =
+    let a = c .before .before .before in
+    (a .whole-lines .ensures .0, ((a .whole-lines .ensures .1 .0, omega (arith, a .whole-lines .kept .1 .1 .1 .0, a .before .before .before .before .before .before .before .before .before .before .before .before .pre .1)), newline (c .before .before .before .before .before .before)))
 
-loop-less : tie.Need-loop-less Inv-loop μ-loop
-loop-less c =
-    let r = c .before .before .before .before .before .before .before .before .before in
-    let i = r .before .before in
-    omega (arith, i .loop-test .taken, c .kept2 .ensures .0 .later, c .kept2 .ensures .0 .within)
+slice-reshare-prefix-write-all : tie.Need-slice-reshare-prefix-write-all
+slice-reshare-prefix-write-all c = search needs
 
-loop-again : tie.Need-loop-again Inv-loop μ-loop
-loop-again c =
-    let a = c .before .before .before .before .before .before in
-    let r = a .before .before .before in
-    let l = at-room r .loop in
-    let n = r .room .result in
-    let kept = same-len-mid n (n + longest - n) (l .out) (a .answer-line .last .1 .1 .0) (a .answer-line .kept .1 .1 .0) in (
-      a .answer-line .ensures .lawful,
-      c .kept2 .ensures .1 ∙ l .inv .1,
-      kept ∙ l .inv .2,
-      l .inv .3,
-      omega (arith, kept, r .room .ensures, a .answer-line .ensures .prints .fits),
-      c .kept2 .ensures .0 .within,
-      c .kept2 .ensures .0 .short,
-      l .inv .7,
-      l .inv .8,
-    )
+slice-aggregate-write-all : tie.Need-slice-aggregate-write-all
+slice-aggregate-write-all c = sym (length-take-le _ _ (c .before .before .before .whole-lines2 .ensures .1 .0))
 
-slice-reshare-prefix-write-all : tie.Need-slice-reshare-prefix-write-all Inv-loop μ-loop
-slice-reshare-prefix-write-all c = c .before .loop .inv .4
-
-slice-aggregate-write-all : tie.Need-slice-aggregate-write-all Inv-loop μ-loop
-slice-aggregate-write-all c = sym (length-take-le _ _ (c .before .before .loop .inv .4))
-
-write-all-requires : tie.Need-write-all-requires Inv-loop μ-loop
+write-all-requires : tie.Need-write-all-requires
 write-all-requires c κs = search needs
 
-same-length : tie.Need-same-length Inv-loop μ-loop
-same-length c = c .before .before .before .loop .inv .2
+sub-kept : tie.Need-sub-kept
+sub-kept c = search needs
 
-returns : tie.Need-returns Inv-loop μ-loop
-returns c =
-    let l = c .before .before .before .loop in
-    record { lawful = l .inv .0; room = l .inv .1; short = l .inv .6 }
+part-kept-start : tie.Need-part-kept-start
+part-kept-start c = search needs
+
+part-kept-end : tie.Need-part-kept-end
+part-kept-end c = search needs
+
+kept-requires-2 : tie.Need-kept-requires-2
+kept-requires-2 c κs = (omega arith, text-long (c .before .before .before .before .before .before .before .before .before .before .before .before .before .before .before))
+
+same-length : tie.Need-same-length
+same-length c = search needs
+
+returns-2 : tie.Need-returns-2
+returns-2 c =
+    let l = c .before .before .before .before .before .before .before .before in
+    record { lawful = l .whole-lines2 .ensures .0; room = c .kept2 .ensures .1 .1; short = omega (arith, rw length-take at (c .kept2 .ensures .0)) }
 
 pub fed-spec : {M : Type 1} → statement M
 fed-spec =
     tie.close
     (tie.spec
-    Inv-loop
-    μ-loop
+    line-end-requires
+    slice-aggregate-kept
     kept-requires
-    loop-holds
-    room-requires
-    add-end
+    returns
+    array-write-text
+    add-text
     array-share-prefix-text
-    slice-aggregate-answer-line
-    sub-answer-line
-    part-answer-line-start
-    part-answer-line-end
-    answer-line-requires
-    add-filled
-    add-kept
-    kept-requires-2
-    loop-less
-    loop-again
+    slice-aggregate-whole-lines
+    whole-lines-requires
+    add-whole-lines
+    whole-lines-requires-2
     slice-reshare-prefix-write-all
     slice-aggregate-write-all
     write-all-requires
+    sub-kept
+    part-kept-start
+    part-kept-end
+    kept-requires-2
     same-length
-    returns)
+    returns-2)
