@@ -1,12 +1,56 @@
--- Laws of what is kept of a line: byte by byte, and where no more of it is kept.
-use mathlib.Core.Path.{_≡_, sym, ap, _∙_}
-use mathlib.Core.List.{List, append-nil}
-use Prim.Native.Nat.{ℕ, suc, _+_, _<_, _≤_}
+-- Laws of the search for a line's end, and of what is kept of a line.
+use mathlib.Core.Path.{_≡_, refl, sym, ap, _∙_}
+use mathlib.Core.Bool.{Bool, true, false, cond, true≢false}
+use mathlib.Core.List.{List, [], _∷_, append-nil}
+use Prim.Native.Nat.{ℕ, zero, suc, _+_, _<_, _≤_}
 use native.Mathlib.Numerals.{add-one}
 use native.Mathlib.Omega.{arith}
-use lib.ListN.{length, take, drop, getD, set, drop-of-length-le}
-use lib.Seq.{take-suc-set, append-snoc, drop-cons, take-all, take-take, take-append-le, length-take-le}
-use Rattle.replay.specs.Replay.{keptBytes, keptOf}
+use lib.ListN.{length, take, drop, getD, set, drop-of-length-le, length-drop}
+use lib.Dec.{eqb}
+use lib.Seq.{drop-drop, take-suc-set, append-snoc, drop-cons, take-all, take-take, take-append-le, length-take-le}
+use Rattle.hexline.specs.Line.{newline, untilNewline}
+use Rattle.replay.specs.Replay.{keptBytes, hasNewline, lineEnd, keptOf}
+
+-- ---- the search for a newline
+
+-- one byte more
+pub newline-next : (s : List ℕ) (i : ℕ) (found r : Bool) → i < length s → r ≡ cond found true (eqb (getD s i 0) newline)
+    → cond r true (hasNewline (drop (i + 1) s)) ≡ cond found true (hasNewline (drop i s))
+unfolding hasNewline
+newline-next s i found r h e = rw (add-one i, drop-cons s i 0 h) (ap (λ (b : Bool). cond b true (hasNewline (drop (suc i) s))) e ∙ go found)
+  where
+    go : (f : Bool)
+        → cond (cond f true (eqb (getD s i 0) newline)) true (hasNewline (drop (suc i) s)) ≡ cond f true (cond (eqb (getD s i 0) newline) true (hasNewline (drop (suc i) s)))
+    go true = refl
+    go false = refl
+
+-- and after the last
+pub newline-end : (s : List ℕ) (i : ℕ) (found : Bool) → length s ≤ i → found ≡ cond found true (hasNewline (drop i s))
+unfolding hasNewline
+newline-end s i found h = rw (drop-of-length-le s h) (go found)
+  where
+    go : (f : Bool) → f ≡ cond f true false
+    go true = refl
+    go false = refl
+
+-- n bytes without a newline are all of the line that starts with them
+until-past : (n : ℕ) (s : List ℕ) → n ≤ length s → hasNewline (take n s) ≡ false → length (untilNewline s) ≡ n + length (untilNewline (drop n s))
+unfolding hasNewline untilNewline
+until-past zero s h e = omega arith
+until-past (suc n) [] h e = absurd (omega arith)
+until-past (suc n) (c ∷ s) h e = go (until-past n s (omega arith)) (eqb c newline) e
+  where
+    go : (hasNewline (take n s) ≡ false → length (untilNewline s) ≡ n + length (untilNewline (drop n s)))
+        → (b : Bool) → cond b true (hasNewline (take n s)) ≡ false → length (cond b [] (c ∷ untilNewline s)) ≡ suc n + length (untilNewline (drop n s))
+    go rest true k = absurd (true≢false k)
+    go rest false k = omega (arith, rest k)
+
+pub end-past : (n : ℕ) (s : List ℕ) (i : ℕ) → i + n ≤ length s → hasNewline (take n (drop i s)) ≡ false → lineEnd s (i + n) ≡ lineEnd s i
+end-past n s i h e =
+    let k = until-past n (drop i s) (rw (length-drop i s) (omega arith)) e in
+    omega (arith, ap (λ (x : List ℕ). length (untilNewline x)) (drop-drop n i s), k)
+
+-- ---- what is kept
 
 -- one byte more
 pub kept-next : (text more : List ℕ) (n i : ℕ) → n < length text → i < length more

@@ -1,9 +1,11 @@
 -- What the replay keeps from read to read.
 use mathlib.Core.Path.{_≡_}
-use mathlib.Core.List.{List, _++_}
+use mathlib.Core.Bool.{Bool, true, false, cond}
+use mathlib.Core.List.{List, [], _∷_, _++_}
 use Prim.Native.Nat.{ℕ, _+_, _≤_}
+use lib.Dec.{eqb}
 use lib.ListN.{length, take, drop}
-use Rattle.hexline.specs.Line.{untilNewline}
+use Rattle.hexline.specs.Line.{newline, untilNewline}
 use Rattle.bridge.specs.State.{Lawful}
 use Rattle.console.specs.Answer.{longestLine}
 use Rattle.replay.specs.declared.Session.{Session}
@@ -15,6 +17,11 @@ keptBytes = longestLine + 1
 -- and the room for it and its newline
 abbrev pub textBytes : ℕ
 textBytes = keptBytes + 1
+
+-- whether a newline is among the bytes
+unfoldable pub hasNewline : List ℕ → Bool
+hasNewline [] = false
+hasNewline (c ∷ s) = cond (eqb c newline) true (hasNewline s)
 
 -- where the line that starts at `from` ends: at a newline, or with the bytes
 abbrev pub lineEnd : List ℕ → ℕ → ℕ
