@@ -1,4 +1,4 @@
--- What the replay keeps from read to read.
+-- Where a line ends, what lines one after the other lead to, and what is kept from read to read.
 use mathlib.Core.Path.{_≡_}
 use mathlib.Core.Bool.{Bool, true, false, cond}
 use mathlib.Core.List.{List, [], _∷_, _++_}
@@ -7,7 +7,8 @@ use lib.Dec.{eqb}
 use lib.ListN.{length, take, drop}
 use Rattle.hexline.specs.Line.{newline, untilNewline}
 use Rattle.bridge.specs.State.{Lawful}
-use Rattle.console.specs.Answer.{longestLine}
+use Rattle.bridge.specs.declared.Bridge.{Bridge}
+use Rattle.console.specs.Answer.{longestLine, answerOf}
 use Rattle.replay.specs.declared.Session.{Session}
 
 -- what is kept of a line: one byte more than the longest line has
@@ -26,6 +27,18 @@ hasNewline (c ∷ s) = cond (eqb c newline) true (hasNewline s)
 -- where the line that starts at `from` ends: at a newline, or with the bytes
 abbrev pub lineEnd : List ℕ → ℕ → ℕ
 lineEnd bytes from = from + length (untilNewline (drop from bytes))
+
+-- the state after the lines that end in the bytes, and the line that is left, where `line` came before them
+pub record Fed : Type 0 where
+  pub next : Bridge
+  pub line : List ℕ
+
+abbrev pub left : Bridge → List ℕ → Fed
+left b line = record { next = b; line = line }
+
+unfoldable pub fedOf : Bridge → List ℕ → List ℕ → Fed
+fedOf b line [] = left b line
+fedOf b line (c ∷ s) = cond (eqb c newline) (fedOf (answerOf b line .next) [] s) (fedOf b (line ++ (c ∷ [])) s)
 
 -- what is kept of a line once more of it is read
 abbrev pub keptOf : List ℕ → List ℕ → List ℕ

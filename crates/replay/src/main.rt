@@ -1,12 +1,13 @@
 // The replay program: one call of the library for each line of text, and one line printed for each.
 ghost use mathlib.Core.Path.{_≡_};
 ghost use mathlib.Core.Bool.{true, cond};
+ghost use mathlib.Core.List.{[]};
 ghost use Prim.Native.Nat.{_+_, _≤_};
-ghost use lib.ListN.{length, take};
+ghost use lib.ListN.{length, take, drop};
 ghost use Rattle.bridge.specs.State.{Lawful};
 ghost use Rattle.bridge.specs.Setup.{noBridge};
 ghost use Rattle.console.specs.Said.{longest};
-ghost use Rattle.replay.specs.Replay.{keptBytes, textBytes, hasNewline, lineEnd, keptOf, Ready};
+ghost use Rattle.replay.specs.Replay.{keptBytes, textBytes, hasNewline, lineEnd, left, fedOf, keptOf, Ready};
 use bridge::Bridge;
 use frame::Mac;
 use frame::Precedence;
@@ -137,6 +138,7 @@ fn whole_lines(b: Bridge, bytes: &[u8], from: usize, out: &mut [u8], filled: usi
     requires { ⌜ (filled ≤ length (now out)) × (longest ≤ length (now out)) ⌝ }
     requires { ⌜ from ≤ length (now bytes) ⌝ }
     ensures { λ r. ⌜ Lawful (r .next) ⌝ }
+    ensures { λ r. ⌜ fedOf b [] (drop from (now (bytes .entry))) ≡ left (r .next) (drop (r .rest) (now (bytes .entry))) ⌝ }
     ensures { λ r. ⌜ (r .filled ≤ length (now (out .exit))) × (r .rest ≤ length (now (bytes .entry))) ⌝ }
 {
     let mut next = b;

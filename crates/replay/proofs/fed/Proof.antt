@@ -71,13 +71,13 @@ add-whole-lines c =
 whole-lines-requires-2 : tie.Need-whole-lines-requires-2
 whole-lines-requires-2 c κs =
     let a = c .before .before .before in
-    (a .whole-lines .ensures .0, ((a .whole-lines .ensures .1 .0, omega (arith, a .whole-lines .kept .1 .1 .1 .0, a .before .before .before .before .before .before .before .before .before .before .before .before .pre .1)), newline (c .before .before .before .before .before .before)))
+    (a .whole-lines .ensures .0, ((a .whole-lines .ensures .1 .1 .0, omega (arith, a .whole-lines .kept .1 .1 .1 .0, a .before .before .before .before .before .before .before .before .before .before .before .before .pre .1)), newline (c .before .before .before .before .before .before)))
 
 slice-reshare-prefix-write-all : tie.Need-slice-reshare-prefix-write-all
 slice-reshare-prefix-write-all c = search needs
 
 slice-aggregate-write-all : tie.Need-slice-aggregate-write-all
-slice-aggregate-write-all c = sym (length-take-le _ _ (c .before .before .before .whole-lines2 .ensures .1 .0))
+slice-aggregate-write-all c = sym (length-take-le _ _ (c .before .before .before .whole-lines2 .ensures .1 .1 .0))
 
 write-all-requires : tie.Need-write-all-requires
 write-all-requires c κs = search needs
