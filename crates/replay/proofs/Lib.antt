@@ -1,2 +1,3 @@
 pub mod ReplayLaws
 pub mod KeptLine
+pub mod FedLaws

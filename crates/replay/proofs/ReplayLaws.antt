@@ -54,7 +54,7 @@ end-past n s i h e =
 
 -- ---- line by line
 
-until-take : (s : List ℕ) → take (length (untilNewline s)) s ≡ untilNewline s
+pub until-take : (s : List ℕ) → take (length (untilNewline s)) s ≡ untilNewline s
 unfolding untilNewline
 until-take [] = refl
 until-take (c ∷ s) = go (eqb c newline) (until-take s)
@@ -64,7 +64,7 @@ until-take (c ∷ s) = go (eqb c newline) (until-take s)
     go false e = ap (λ (x : List ℕ). c ∷ x) e
 
 -- the first line of the bytes
-fed-line : (s line : List ℕ) (b : Bridge) → length (untilNewline s) < length s
+pub fed-line : (s line : List ℕ) (b : Bridge) → length (untilNewline s) < length s
     → fedOf b line s ≡ fedOf (answerOf b (line ++ untilNewline s) .next) [] (drop (suc (length (untilNewline s))) s)
 unfolding fedOf untilNewline
 fed-line [] line b h = absurd (omega arith)
@@ -80,7 +80,7 @@ fed-line (c ∷ s) line b h = go (fed-line s (line ++ (c ∷ [])) b) (eqb c newl
         rest (omega arith) ∙ ap (λ (x : List ℕ). fedOf (answerOf b x .next) [] (drop (suc (length (untilNewline s))) s)) (append-snoc line c (untilNewline s))
 
 -- and where none ends in them
-fed-rest : (s line : List ℕ) (b : Bridge) → length s ≤ length (untilNewline s) → fedOf b line s ≡ left b (line ++ s)
+pub fed-rest : (s line : List ℕ) (b : Bridge) → length s ≤ length (untilNewline s) → fedOf b line s ≡ left b (line ++ s)
 unfolding fedOf untilNewline
 fed-rest [] line b h = ap (left b) (sym (append-nil line))
 fed-rest (c ∷ s) line b h = go (fed-rest s (line ++ (c ∷ [])) b) (eqb c newline) h

@@ -44,8 +44,13 @@ fedOf b line (c ∷ s) = cond (eqb c newline) (fedOf (answerOf b line .next) [] 
 abbrev pub keptOf : List ℕ → List ℕ → List ℕ
 keptOf was more = take keptBytes (was ++ more)
 
--- what is kept from read to read: a lawful bridge, and a line that is kept within its room
+-- the line as far as it is kept
+abbrev pub lineOf : Session → List ℕ
+lineOf s = take (s .len) (s .text)
+
+-- what is kept from read to read: a lawful bridge, and a line without a newline that is kept within its room
 pub record Ready (s : Session) : Type 0 where
   pub lawful : Lawful (s .bridge)
   pub room : length (s .text) ≡ textBytes
   pub short : s .len ≤ keptBytes
+  pub clean : hasNewline (lineOf s) ≡ false

@@ -7,7 +7,7 @@ ghost use lib.ListN.{length, take, drop};
 ghost use Rattle.bridge.specs.State.{Lawful};
 ghost use Rattle.bridge.specs.Setup.{noBridge};
 ghost use Rattle.console.specs.Said.{longest};
-ghost use Rattle.replay.specs.Replay.{keptBytes, textBytes, hasNewline, lineEnd, left, fedOf, keptOf, Ready};
+ghost use Rattle.replay.specs.Replay.{keptBytes, textBytes, hasNewline, lineEnd, left, fedOf, keptOf, lineOf, Ready};
 use bridge::Bridge;
 use frame::Mac;
 use frame::Precedence;
@@ -166,6 +166,8 @@ fn fed(s: Session, bytes: &[u8], out: &mut [u8]) -> Session
     requires { ⌜ Ready s ⌝ }
     requires { ⌜ longest ≤ length (now out) ⌝ }
     ensures { λ r. ⌜ Ready r ⌝ }
+    ensures { λ r. ⌜ r .bridge ≡ fedOf (s .bridge) (lineOf s) (now (bytes .entry)) .next ⌝ }
+    ensures { λ r. ⌜ lineOf r ≡ take keptBytes (fedOf (s .bridge) (lineOf s) (now (bytes .entry)) .line) ⌝ }
 {
     let b = s.bridge;
     let mut text = s.text;
