@@ -1,5 +1,5 @@
 -- Setup refuses no ports.
-use mathlib.Core.Path.{_≡_, refl, sym, ap, _∙_}
+use mathlib.Core.Path.{refl, sym, ap, _∙_}
 use Rattle.bridge.specs.declared.Done.{Done}
 use Rattle.bridge.specs.Setup.{setupFits}
 use Rattle.bridge.proofs.StateLaws.{setup-refused}
