@@ -1,7 +1,7 @@
--- What is kept of a line is the same however the reads cut it, and is answered as the whole line would be.
+-- What is kept of a line is answered as the whole line would be.
 use mathlib.Core.Path.{_≡_, refl, sym, ap, _∙_}
 use mathlib.Core.Bool.{Bool, true, false}
-use mathlib.Core.List.{List, [], _∷_, _++_, append-assoc}
+use mathlib.Core.List.{List, [], _∷_, _++_}
 use Prim.Native.Nat.{ℕ, zero, suc, _<_}
 use native.Mathlib.Omega.{arith}
 use borrow.Author.Tests.{ltb-true, ltb-false}
@@ -10,20 +10,14 @@ use lib.ListN.{length, take, length-take}
 use lib.Seq.{take-all}
 use Rattle.bridge.specs.declared.Bridge.{Bridge}
 use Rattle.console.specs.Answer.{longestLine, answerOf}
-use Rattle.replay.specs.Replay.{keptBytes, keptOf}
+use Rattle.replay.specs.Replay.{keptBytes}
 use Rattle.console.proofs.AnswerLaws.{formed-long, answer-bad}
 
--- ---- a line in parts
-
-cut-twice : (n : ℕ) (s t : List ℕ) → take n (take n s ++ t) ≡ take n (s ++ t)
+-- what is cut twice is cut once
+pub cut-twice : (n : ℕ) (s t : List ℕ) → take n (take n s ++ t) ≡ take n (s ++ t)
 cut-twice zero s t = refl
 cut-twice (suc n) [] t = refl
 cut-twice (suc n) (c ∷ s) t = ap (λ (x : List ℕ). c ∷ x) (cut-twice n s t)
-
-pub kept-parts : (was s t : List ℕ) → keptOf (keptOf was s) t ≡ keptOf was (s ++ t)
-kept-parts was s t = cut-twice keptBytes (was ++ s) t ∙ ap (take keptBytes) (append-assoc was s t)
-
--- ---- its answer
 
 -- a longer line is as bad as what is kept of it, and a shorter one is kept whole
 pub kept-answers : (b : Bridge) (line : List ℕ) → answerOf b (take keptBytes line) ≡ answerOf b line

@@ -1,2 +1,4 @@
 pub mod ReplayLaws
 pub mod KeptLine
+pub mod FedLaws
+pub mod TwoReads

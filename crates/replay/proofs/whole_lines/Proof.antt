@@ -1,19 +1,23 @@
--- Line by line: the state stays lawful, and what is filled stays within the output.
-use mathlib.Core.Path.{_≡_, refl, _∙_}
+-- Line by line: the lines left lead where all of them do, and what is filled stays within the output.
+use mathlib.Core.Path.{_≡_, refl, sym, _∙_}
+use mathlib.Core.List.{[]}
 use Prim.Native.Nat.{_+_, _-_, _^_, _<_, _≤_}
 use native.Mathlib.Omega.{arith}
 use borrow.Author.Needs.{needs}
 use borrow.Rule.Slice.PartMut.{same-len-mid}
-use lib.ListN.{length}
+use lib.ListN.{length, drop}
 use Rattle.bridge.specs.State.{Lawful}
 use Rattle.words.specs.Said.{longest}
+use Rattle.replay.specs.Replay.{lineEnd, fedOf}
 use Rattle.hexline.proofs.LineLaws.{stop-within}
+use Rattle.replay.proofs.ReplayLaws.{line-fed, rest-fed}
 use Rattle.replay.proofs.whole_lines.Statement.{statement}
 use Rattle.replay.proofs.whole_lines.Tie as tie
 
 abbrev Inv-loop : tie.InvT-loop
 Inv-loop bytes from out₀ filled next₀ n₀ start₀ end₀ out next n start end =
     Lawful next × (length out ≡ length out₀) × (longest ≤ length out) × (n ≤ length out) × (start ≤ end) × (end ≤ length bytes) × (length out < 2 ^ 64) × (length bytes < 2 ^ 64)
+    × (fedOf next [] (drop start bytes) ≡ fedOf next₀ [] (drop from bytes)) × (end ≡ lineEnd bytes start)
 
 abbrev μ-loop : tie.MeasureT-loop
 μ-loop bytes from out₀ filled next₀ n₀ start₀ end₀ out next n start end = length bytes - end
@@ -32,7 +36,7 @@ loop-holds : tie.Need-loop-holds Inv-loop μ-loop
 loop-holds c =
     let s = c .before .before .before in
     let within = stop-within (s .args .bytes .now) (s .args .from) (s .pre .1 .1) in
-    (s .pre .0, refl, s .pre .1 .0 .1, s .pre .1 .0 .0, omega (arith, c .line-end .ensures), omega (arith, c .line-end .ensures, within), omega arith, omega arith)
+    (s .pre .0, refl, s .pre .1 .0 .1, s .pre .1 .0 .0, omega (arith, c .line-end .ensures), omega (arith, c .line-end .ensures, within), omega arith, omega arith, refl, c .line-end .ensures)
 
 room-requires : tie.Need-room-requires Inv-loop μ-loop
 room-requires c κs = search needs
@@ -81,7 +85,9 @@ loop-again : tie.Need-loop-again Inv-loop μ-loop
 loop-again c =
     let a = c .before .before .before .before .before in
     let r = a .before .before .before in
-    let l = r .before .before .before .loop in
+    let i = r .before .before in
+    let l = i .before .loop in
+    let bytes = i .before .before .before .before .before .args .bytes .now in
     let n = r .room .result in
     let same = same-len-mid n (n + longest - n) (l .out) (a .answer-line .last .1 .1 .0) (a .answer-line .kept .1 .1 .0) in (
       a .answer-line .ensures .lawful,
@@ -92,13 +98,18 @@ loop-again c =
       ends c,
       omega (arith, same, l .inv),
       l .inv .7,
+      line-fed (l .next) (a .answer-line .result .next) bytes (l .start) (l .end) (l .inv .9) (i .loop-test .taken) (a .answer-line .ensures .state) ∙ l .inv .8,
+      c .line-end2 .ensures,
     )
 
 same-length : tie.Need-same-length Inv-loop μ-loop
 same-length c = search needs
 
 returns : tie.Need-returns Inv-loop μ-loop
-returns c = search needs
+returns c =
+    let l = c .before .loop in
+    let bytes = c .before .before .before .before .before .args .bytes .now in
+    (l .inv .0, (sym (l .inv .8) ∙ rest-fed (l .next) bytes (l .start) (l .end) (l .inv .9) (c .loop-test .left), (l .inv .3, omega (arith, l .inv))))
 
 pub whole-lines-spec : {M : Type 1} → statement M
 whole-lines-spec =
