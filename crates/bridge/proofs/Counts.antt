@@ -12,11 +12,11 @@ use lib.ListN.{length, set, replicate, length-set}
 use lib.Seq.{getD-set-same, getD-set-other}
 use Rattle.numbers.specs.Digits.{numberAt}
 use Rattle.times.specs.Times.{circle}
+use Rattle.precedence.specs.declared.Precedence.{Precedence}
 use Rattle.frame.specs.Read.{readOf}
 use Rattle.frame.specs.declared.Reading.{Reading}
 use Rattle.frame.specs.declared.Reading.the-variants as Readings
 use Rattle.frame.specs.declared.Mac.{Mac}
-use Rattle.frame.specs.declared.Precedence.{Precedence}
 use Rattle.port.specs.Record.{emptyPort, agedPort, usedPort}
 use Rattle.port.specs.Send.{sendingNo}
 use Rattle.port.specs.declared.Setting.{Setting}

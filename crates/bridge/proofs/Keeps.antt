@@ -11,12 +11,12 @@ use lib.Pow.{pow-pos}
 use Rattle.times.specs.Times.{circle}
 use Rattle.times.specs.declared.LocalTime.{LocalTime}
 use Rattle.relay.specs.Sent.{longestElapsed}
+use Rattle.precedence.specs.declared.Precedence.{Precedence}
 use Rattle.frame.specs.Frame.{frameLength}
 use Rattle.frame.specs.Read.{readOf}
 use Rattle.frame.specs.Write.{unwritten}
 use Rattle.frame.specs.declared.Fields.{Fields}
 use Rattle.frame.specs.declared.Mac.{Mac}
-use Rattle.frame.specs.declared.Precedence.{Precedence}
 use Rattle.frame.specs.declared.Reading.{Reading}
 use Rattle.frame.specs.declared.Reading.the-variants.{Frame, Refused}
 use Rattle.port.specs.Record.{emptyPort}

@@ -11,12 +11,12 @@ use Rattle.times.specs.Times.{circle}
 use Rattle.relay.specs.declared.Drift.{Drift}
 use Rattle.relay.specs.declared.Drift.the-variants as Drifts
 use Rattle.relay.specs.Drift.{driftOf}
+use Rattle.precedence.specs.declared.Precedence.{Precedence}
 use Rattle.frame.specs.Frame.{frameLength}
 use Rattle.frame.specs.Read.{readOf}
 use Rattle.frame.specs.Write.{bytesOf, unwritten, writtenAs, writtenOf}
 use Rattle.frame.specs.declared.Fields.{Fields}
 use Rattle.frame.specs.declared.Mac.{Mac}
-use Rattle.frame.specs.declared.Precedence.{Precedence}
 use Rattle.frame.specs.declared.Reading.{Reading}
 use Rattle.port.specs.Record.{agedPort}
 use Rattle.port.specs.Own.{toldOf}

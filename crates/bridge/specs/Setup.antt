@@ -3,8 +3,8 @@ use mathlib.Core.Bool.{Bool, false, cond}
 use mathlib.Core.List.{List}
 use Prim.Native.Nat.{ℕ, _^_}
 use lib.ListN.{replicate}
+use Rattle.precedence.specs.declared.Precedence.{Precedence}
 use Rattle.frame.specs.declared.Mac.{Mac}
-use Rattle.frame.specs.declared.Precedence.{Precedence}
 use Rattle.port.specs.Record.{emptyPort, emptyClock}
 use Rattle.port.specs.declared.Setting.{Setting}
 use Rattle.table.specs.Table.{mostPorts}

@@ -14,7 +14,6 @@ ghost use Rattle.bridge.specs.Send.{composedOf, usedOf, sendOf, sendByte
 ghost use Rattle.bridge.specs.Drift.{driftAt};
 use frame::Fields;
 use frame::Mac;
-use frame::Precedence;
 use frame::Reading;
 use frame::decoding;
 use port::Choice;
@@ -27,6 +26,7 @@ use port::composing;
 use port::hearing;
 use port::ranking;
 use port::telling;
+use precedence::Precedence;
 use relay::Drift;
 use relay::drifting;
 use table::checks;

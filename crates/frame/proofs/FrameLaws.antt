@@ -8,15 +8,15 @@ use native.Mathlib.Omega.{arith}
 use lib.Dec.{ltb, leb, eqb}
 use lib.ListN.{length, drop, getD}
 use borrow.Author.Tests.{eq-eqb, ne-eqb, eqb-true, eqb-false, ltb-true, leb-true, lt-ltb, le-leb}
+use Rattle.numbers.specs.Table.{joined}
 use Rattle.times.specs.Hop.{lastHop}
 use Rattle.times.specs.Times.{second, circle}
-use Rattle.numbers.specs.Table.{joined}
-use Rattle.frame.specs.Precedence.{keyOf}
+use Rattle.precedence.specs.Precedence.{keyOf}
+use Rattle.precedence.specs.declared.Precedence.{Precedence}
 use Rattle.frame.specs.Frame.{frameLength, stationAddress, localExperimental, timeSync, firstVersion, widths, valuesOf, fieldsOf}
 use Rattle.frame.specs.Read.{unless, rowsOf, constantsNo, refusalOf, readAs, readOf}
 use Rattle.frame.specs.Write.{unwritten, bytesOf, writtenAs, writtenOf}
 use Rattle.frame.specs.Better.{standingBy, standingOf, winnerOf}
-use Rattle.frame.specs.declared.Precedence.{Precedence}
 use Rattle.frame.specs.declared.Fields.{Fields}
 use Rattle.frame.specs.declared.Reading.the-variants.{Frame, Refused}
 use Rattle.frame.specs.declared.Standing.{Standing}

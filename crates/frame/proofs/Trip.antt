@@ -9,16 +9,16 @@ use lib.ListN.{length, take, drop, getD, length-append}
 use lib.Seq.{take-all, take-at}
 use Rattle.numbers.specs.Digits.{onto, numberAt, digits}
 use Rattle.numbers.specs.Table.{total, parted, joined, Held}
-use Rattle.numbers.proofs.Places.{Bytes, number-add, onto-append, onto-split, length-digits, value-digits}
-use Rattle.numbers.proofs.Table.{held-at, held-parted, length-joined, joined-append, joined-parted, parted-joined, drop-joined}
 use Rattle.times.specs.Times.{units, InRange}
-use Rattle.frame.specs.Precedence.{precedenceOf}
+use Rattle.precedence.specs.Precedence.{precedenceOf}
 use Rattle.frame.specs.Frame.{frameLength, widths, valuesOf, fieldsOf}
 use Rattle.frame.specs.Read.{rowsOf, readOf}
 use Rattle.frame.specs.Write.{unwritten, bytesOf, writtenOf}
 use Rattle.frame.specs.Better.{precedenceStart, precedenceBytes}
 use Rattle.frame.specs.declared.Fields.{Fields}
 use Rattle.frame.specs.declared.Reading.the-variants.{Frame}
+use Rattle.numbers.proofs.Places.{Bytes, number-add, onto-append, onto-split, length-digits, value-digits}
+use Rattle.numbers.proofs.Table.{held-at, held-parted, length-joined, joined-append, joined-parted, parted-joined, drop-joined}
 use Rattle.frame.proofs.FrameLaws.{Accepted, accepted, by-rows, framed, reading, Written, in-range, unrefused, filled}
 
 -- ---- read, then written

@@ -2,8 +2,8 @@
 use Prim.Native.Nat.{ℕ}
 use mathlib.Core.List.{List, [], _∷_}
 use lib.ListN.{getD}
+use Rattle.precedence.specs.declared.Precedence.{Precedence}
 use Rattle.frame.specs.declared.Mac.{Mac}
-use Rattle.frame.specs.declared.Precedence.{Precedence}
 use Rattle.frame.specs.declared.Fields.{Fields}
 
 abbrev pub frameLength : ℕ

@@ -1,4 +1,3 @@
-pub mod Precedence
 pub mod Frame
 pub mod Read
 pub mod Write

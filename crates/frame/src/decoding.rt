@@ -5,9 +5,9 @@ ghost use Rattle.frame.specs.Frame.{widths, macOf, precedenceIn, fieldsO
 ghost use Rattle.frame.specs.Read.{constantsNo, readOf};
 use crate::Fields;
 use crate::Mac;
-use crate::Precedence;
 use crate::Reading;
 use crate::layout;
+use precedence::Precedence;
 use times::ErrorTime;
 use times::GrandTime;
 use times::LocalTime;

@@ -3,23 +3,14 @@ pub mod choosing;
 pub mod decoding;
 pub mod encoding;
 pub mod layout;
-pub mod ranking;
 
+use precedence::Precedence;
 use times::ErrorTime;
 use times::GrandTime;
 use times::LocalTime;
 
 // The six bytes of a station's address.
 pub struct Mac(pub u8, pub u8, pub u8, pub u8, pub u8, pub u8);
-
-// How good a clock is, the weightiest part first; less is better.
-pub struct Precedence {
-    pub priority1: u8,
-    pub source: u8,
-    pub variance: u16,
-    pub priority2: u8,
-    pub clock: u64,
-}
 
 // What a frame says.
 pub struct Fields {

@@ -6,12 +6,12 @@ ghost use Rattle.bridge.specs.State.{Lawful};
 ghost use Rattle.listing.specs.Listing.{printedBytes, heldBytes, startOf, toldOf, listedOf, Ready};
 use bridge::Bridge;
 use frame::Mac;
-use frame::Precedence;
 use hexline::lines;
 use hexline::printing;
 use libc::STDIN_FILENO;
 use libc::STDOUT_FILENO;
 use port::Choice;
+use precedence::Precedence;
 
 // The listing's bridge: two ports, both linked.
 const PORTS: u8 = 2;

@@ -27,12 +27,12 @@ use Rattle.relay.specs.Sent.{sentOf}
 use Rattle.relay.specs.declared.DelaySetting.{DelaySetting}
 use Rattle.relay.specs.declared.Delay.{Delay}
 use Rattle.relay.specs.declared.Delay.the-variants.{Is, TooLong}
+use Rattle.precedence.specs.Precedence.{keyOf}
+use Rattle.precedence.specs.declared.Precedence.{Precedence}
 use Rattle.frame.specs.Frame.{frameLength, widths}
 use Rattle.frame.specs.Read.{rowsOf, readOf}
 use Rattle.frame.specs.Write.{unwritten}
 use Rattle.frame.specs.declared.Reading.the-variants as Frames
-use Rattle.frame.specs.Precedence.{keyOf}
-use Rattle.frame.specs.declared.Precedence.{Precedence}
 use Rattle.frame.specs.declared.Fields.{Fields}
 use Rattle.frame.specs.declared.Mac.{Mac}
 use Rattle.port.specs.Record.{silenced, agedBy, agedPort, emptyPort, usedPort}

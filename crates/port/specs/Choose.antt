@@ -3,8 +3,8 @@ use Prim.Native.Nat.{ℕ, _+_, _*_}
 use mathlib.Core.Bool.{Bool, true, false, cond}
 use lib.Dec.{ltb}
 use Rattle.times.specs.Hop.{lastHop}
-use Rattle.frame.specs.Precedence.{keyOf}
-use Rattle.frame.specs.declared.Precedence.{Precedence}
+use Rattle.precedence.specs.Precedence.{keyOf}
+use Rattle.precedence.specs.declared.Precedence.{Precedence}
 use Rattle.port.specs.declared.Heard.{Heard}
 use Rattle.port.specs.declared.Heard.the-variants.{Silent, Said}
 use Rattle.port.specs.declared.Choice.{Choice}

@@ -13,8 +13,8 @@ use Rattle.relay.specs.Delay.{linkDelayOf}
 use Rattle.relay.specs.declared.DelaySetting.{DelaySetting}
 use Rattle.relay.specs.declared.Delay.{Delay}
 use Rattle.relay.specs.declared.Delay.the-variants.{Is, TooLong}
-use Rattle.frame.specs.Precedence.{precedenceOf}
-use Rattle.frame.specs.declared.Precedence.{Precedence}
+use Rattle.precedence.specs.Precedence.{precedenceOf}
+use Rattle.precedence.specs.declared.Precedence.{Precedence}
 use Rattle.frame.specs.declared.Fields.{Fields}
 use Rattle.port.specs.declared.Last.{Last}
 use Rattle.port.specs.declared.Last.the-variants.{Never, Was}

@@ -6,7 +6,7 @@ pub mod ranking;
 pub mod telling;
 
 use frame::Fields;
-use frame::Precedence;
+use precedence::Precedence;
 use relay::DelaySetting;
 use samples::Samples;
 use samples::Stamps;

@@ -4,8 +4,8 @@ ghost use lib.Dec.{ltb};
 ghost use Rattle.port.specs.Choose.{rankOf, candidateOf, ownCandidate, betterOf, chosenHop};
 use crate::Choice;
 use crate::Heard;
-use frame::Precedence;
-use frame::ranking;
+use precedence::Precedence;
+use precedence::ranking;
 use times::hops;
 
 // The candidate of the port with this number, by its announcement.

@@ -6,7 +6,7 @@ use lib.Dec.{eqb}
 use lib.ListN.{getD}
 use Rattle.samples.specs.declared.Samples.{Samples}
 use Rattle.samples.specs.declared.Samples.the-variants.{Empty}
-use Rattle.frame.specs.declared.Precedence.{Precedence}
+use Rattle.precedence.specs.declared.Precedence.{Precedence}
 use Rattle.port.specs.Record.{emptyPort}
 use Rattle.port.specs.Choose.{candidateOf, ownCandidate, betterOf}
 use Rattle.port.specs.declared.Port.{Port}

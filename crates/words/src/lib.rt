@@ -5,7 +5,7 @@ pub mod reading;
 
 use frame::Fields;
 use frame::Mac;
-use frame::Precedence;
+use precedence::Precedence;
 use relay::DelaySetting;
 use times::ErrorTime;
 use times::GrandTime;

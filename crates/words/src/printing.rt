@@ -6,9 +6,9 @@ ghost use lib.ListN.{length, take, drop};
 ghost use Rattle.words.specs.Said.{longest, fieldsLength, line1, line2, lineBytes, lineWith, column, macAt, precedenceAt, restAt, fieldsLine, Prints};
 use frame::Fields;
 use frame::Mac;
-use frame::Precedence;
 use hexline::printing;
 use numbers::digits;
+use precedence::Precedence;
 
 const SPACE: u8 = b' ';
 

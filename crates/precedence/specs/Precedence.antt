@@ -1,6 +1,6 @@
 -- Precedence as one number of 104 bits, and the key of a clock's frame.
 use Prim.Native.Nat.{ℕ, _+_, _*_, _^_}
-use Rattle.frame.specs.declared.Precedence.{Precedence}
+use Rattle.precedence.specs.declared.Precedence.{Precedence}
 
 -- priority1, timeSource, variance and priority2: the 40 bits above clockID
 abbrev pub highOf : Precedence → ℕ

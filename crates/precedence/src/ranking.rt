@@ -1,7 +1,7 @@
 // Precedence as one number of 104 bits, and the key of a clock's frame: precedence, then hop.
 ghost use mathlib.Core.Path.{_≡_};
 ghost use lib.Dec.{ltb, eqb};
-ghost use Rattle.frame.specs.Precedence.{highOf, precedenceOf, keyOf};
+ghost use Rattle.precedence.specs.Precedence.{highOf, precedenceOf, keyOf};
 use crate::Precedence;
 
 // The weights of the parts above the clock's identity.

@@ -3,10 +3,10 @@ use mathlib.Core.Path.{sym, _∙_}
 use native.Mathlib.Omega.{arith}
 use borrow.Author.Tests.{ltb-true, ltb-false}
 use borrow.Author.Needs.{needs}
+use Rattle.precedence.specs.Precedence.{precedenceOf, keyOf}
 use Rattle.numbers.proofs.Pairs.{first-less, first-more, first-same}
-use Rattle.frame.specs.Precedence.{precedenceOf, keyOf}
-use Rattle.frame.proofs.ranking.key_precedes.Statement.{statement}
-use Rattle.frame.proofs.ranking.key_precedes.Tie as tie
+use Rattle.precedence.proofs.ranking.key_precedes.Statement.{statement}
+use Rattle.precedence.proofs.ranking.key_precedes.Tie as tie
 
 precedes-requires : tie.Need-precedes-requires
 precedes-requires c κs = search needs

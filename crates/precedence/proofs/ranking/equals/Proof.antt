@@ -2,10 +2,10 @@
 use Prim.Native.Nat.{_^_}
 use native.Mathlib.Omega.{arith}
 use borrow.Author.Needs.{needs}
+use Rattle.precedence.specs.Precedence.{highOf, precedenceOf}
 use Rattle.numbers.proofs.Pairs.{equal-same, equal-never}
-use Rattle.frame.specs.Precedence.{highOf, precedenceOf}
-use Rattle.frame.proofs.ranking.equals.Statement.{statement}
-use Rattle.frame.proofs.ranking.equals.Tie as tie
+use Rattle.precedence.proofs.ranking.equals.Statement.{statement}
+use Rattle.precedence.proofs.ranking.equals.Tie as tie
 
 high-requires : tie.Need-high-requires
 high-requires c κs = search needs
