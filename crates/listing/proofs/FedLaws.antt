@@ -1,6 +1,6 @@
 -- Laws of the session after bytes: a scan up to a newline at once, and reads that cut the input anywhere.
 use mathlib.Core.Path.{_≡_, refl, sym, ap, _∙_}
-use mathlib.Core.Bool.{Bool, true, false, cond}
+use mathlib.Core.Bool.{Bool, true, false}
 use mathlib.Core.List.{List, [], _∷_, _++_}
 use Prim.Native.Nat.{ℕ, suc, _+_, _<_, _≤_}
 use native.Mathlib.Omega.{arith}
@@ -15,10 +15,10 @@ use Rattle.listing.specs.declared.Listed.{Listed}
 use Rattle.listing.specs.declared.Session.{Session}
 
 -- how reads cut the input does not matter
-pub fed-parts : (xs ys : List ℕ) (s : Session) → fedOf (fedOf s xs) ys ≡ fedOf s (xs ++ ys)
+pub fed-parts : (s : Session) (xs ys : List ℕ) → fedOf (fedOf s xs) ys ≡ fedOf s (xs ++ ys)
 unfolding fedOf
-fed-parts [] ys s = refl
-fed-parts (c ∷ xs) ys s = fed-parts xs ys (fedBy s c)
+fed-parts s [] ys = refl
+fed-parts s (c ∷ xs) ys = fed-parts (fedBy s c) xs ys
 
 -- the bytes up to a newline go into the line
 abbrev Until : List ℕ → Bridge → Line → Type 0
@@ -27,7 +27,7 @@ Until bytes b l =
 
 until-by : (c : ℕ) (bytes : List ℕ) (b : Bridge) (l : Line) (t : Bool) → eqb c newline ≡ t → Until bytes b (stepOf l c) → Until (c ∷ bytes) b l
 unfolding fedOf fedBy stepsOf untilNewline
-until-by c bytes b l true e rest = ap (λ (u : List ℕ). fedOf (sessionAt b (stepsOf l u)) (drop (length u) (c ∷ bytes))) (ap (λ (t : Bool). cond t [] (c ∷ untilNewline bytes)) e)
+until-by c bytes b l true e rest = rw e (rw e)
 until-by c bytes b l false e rest = rw e rest
 
 fed-until : (bytes : List ℕ) (b : Bridge) (l : Line) → Until bytes b l
@@ -46,7 +46,6 @@ answered-by c bytes s true e rest h = rw e (rw e)
 answered-by c bytes s false e rest h = let k = rw e at h in rw e (rest (omega arith))
 
 fed-newline : (bytes : List ℕ) (s : Session) → Answered bytes s
-unfolding fedOf untilNewline
 fed-newline [] s h = absurd (omega arith)
 fed-newline (c ∷ bytes) s h = answered-by c bytes s (eqb c newline) refl (fed-newline bytes s) h
 
@@ -61,13 +60,15 @@ fed-scan bytes from b l stop held e h =
     ∙ fed-until (drop from bytes) b l
 
 -- and over the newline there
-pub fed-line : (bytes : List ℕ) (from at : ℕ) (s : Session) (listed : Listed) → at ≡ from + length (untilNewline (drop from bytes)) → at < length bytes
-    → listed ≡ listedOf (s .bridge) (s .held) (s .seen) → fedOf (sessionAt (listed .next) (lineAt (s .held) 0)) (drop (at + 1) bytes) ≡ fedOf s (drop at bytes)
-fed-line bytes from at s listed e h a =
+pub fed-line : (bytes : List ℕ) (from at : ℕ) (b : Bridge) (held : List ℕ) (seen : ℕ) (listed : Listed) → at ≡ from + length (untilNewline (drop from bytes))
+    → at < length bytes → listed ≡ listedOf b held seen
+    → fedOf (sessionAt (listed .next) (lineAt held 0)) (drop (at + 1) bytes) ≡ fedOf (sessionAt b (lineAt held seen)) (drop at bytes)
+fed-line bytes from at b held seen listed e h a =
+    let s = sessionAt b (lineAt held seen) in
     let n = length (untilNewline (drop from bytes)) in
     let next : at + 1 ≡ from + suc n = omega arith in
     let within : n < length (drop from bytes) = rw (length-drop from bytes) (omega arith) in
-    (λ i. fedOf (sessionAt (a i .next) (lineAt (s .held) 0)) (drop (next i) bytes))
+    (λ i. fedOf (sessionAt (a i .next) (lineAt held 0)) (drop (next i) bytes))
     ∙ ap (fedOf (afterLine s)) (sym (drop-drop (suc n) from bytes))
     ∙ fed-newline (drop from bytes) s within
     ∙ ap (fedOf s) (drop-drop n from bytes ∙ ap (λ (k : ℕ). drop k bytes) (sym e))

@@ -8,8 +8,8 @@ use borrow.Rule.Slice.PartMut.{same-len-mid}
 use lib.ListN.{length, drop, length-drop}
 use lib.Seq.{length-take-le}
 use Rattle.hexline.specs.declared.lines.Stop.{Stop}
-use Rattle.hexline.proofs.LineLaws.{stop-within, scanned-length}
 use Rattle.hexline.specs.Line.{lineAt}
+use Rattle.hexline.proofs.LineLaws.{stop-within, scanned-length}
 use Rattle.bridge.specs.State.{Lawful}
 use Rattle.listing.specs.Listing.{printedBytes, heldBytes, sessionAt, fedOf}
 use Rattle.listing.proofs.FedLaws.{fed-scan, fed-line, fed-end}
@@ -45,7 +45,7 @@ kept-fed : (c : tie.After-scan Inv-loop μ-loop)
 kept-fed c =
     let l = c .before .before .before .loop in
     let a = c .before .before .before .before .before .before .before .before .args in
-    fed-scan (a .bytes .now) (l .i) (l .b) (lineAt (l .held) (l .seen)) (c .scan .result) (c .scan .last .0) (c .scan .ensures .0) (c .scan .ensures .1) ∙ l .inv .8
+    fed-scan (a .bytes .now) (l .i) (l .b) _ _ _ (c .scan .ensures .0) (c .scan .ensures .1) ∙ l .inv .8
 
 -- the loop's head, once there is room for a line
 abbrev at-room : tie.After-room Inv-loop μ-loop → tie.At-loop Inv-loop μ-loop
@@ -107,8 +107,7 @@ loop-again c =
     let l = at-room r .loop in
     let n = r .room .result in
     let kept = same-len-mid n (n + 9 - n) (l .out) (c .before .before .put-three .last .0) (c .before .before .put-three .kept .0) in
-    let answer =
-    fed-line (t .before .before .before .before .before .before .before .before .before .args .bytes .now) (l .i) (t .before .scan .result .at) (sessionAt (l .b) (lineAt (t .before .scan .last .0) (t .before .scan .result .seen))) (a .answered .result) (ap (λ (s : Stop). s .at) (t .before .scan .ensures .0)) (t .if1 .taken) (a .answered .ensures .0) in
+    let answer = fed-line _ (l .i) _ (l .b) _ _ _ (ap (λ (s : Stop). s .at) (t .before .scan .ensures .0)) (t .if1 .taken) (a .answered .ensures .0) in
     (a .answered .ensures .1, held-long (t .before), kept ∙ l .inv .2, l .inv .3, omega (arith, kept, r .room .ensures), omega (arith, t .if1 .taken), l .inv .6, l .inv .7, answer ∙ kept-fed (t .before))
 
 loop-less-2 : tie.Need-loop-less-2 Inv-loop μ-loop
