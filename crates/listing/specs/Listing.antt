@@ -1,7 +1,7 @@
 -- What the listing prints for a line: the answer, and the clock that is chosen then.
 use mathlib.Core.Path.{_≡_}
 use mathlib.Core.Bool.{false, cond}
-use mathlib.Core.List.{List}
+use mathlib.Core.List.{List, [], _∷_}
 use Prim.Native.Nat.{ℕ}
 use lib.Dec.{eqb}
 use lib.ListN.{length, getD, drop, replicate}
@@ -17,7 +17,7 @@ use Rattle.bridge.specs.Chosen.{chosenOf}
 use Rattle.bridge.specs.Receive.{receiveOf}
 use Rattle.bridge.specs.declared.Bridge.{Bridge}
 use Rattle.bridge.specs.declared.Done.{Done}
-use Rattle.hexline.specs.Line.{lineDigits}
+use Rattle.hexline.specs.Line.{lineDigits, newline, Line, lineAt, stepOf}
 use Rattle.listing.specs.declared.Listed.{Listed}
 use Rattle.listing.specs.declared.Session.{Session}
 
@@ -61,6 +61,23 @@ doneOf done = toldOf (done .next) (done .answer)
 
 unfoldable pub listedOf : Bridge → List ℕ → ℕ → Listed
 listedOf b held seen = cond (eqb seen lineDigits) (doneOf (receiveOf b (getD held 0 0) (drop 7 held) (numberAt held 1 6))) (toldOf b badLine)
+
+-- a bridge with a line as far as it is read
+abbrev pub sessionAt : Bridge → Line → Session
+sessionAt b l = record { bridge = b; held = l .held; seen = l .seen }
+
+-- the session once its line is answered
+abbrev pub afterLine : Session → Session
+afterLine s = sessionAt (listedOf (s .bridge) (s .held) (s .seen) .next) (lineAt (s .held) 0)
+
+-- the session after one byte: a newline has the line answered, any other byte goes into the line
+unfoldable pub fedBy : Session → ℕ → Session
+fedBy s c = cond (eqb c newline) (afterLine s) (sessionAt (s .bridge) (stepOf (lineAt (s .held) (s .seen)) c))
+
+-- the session after bytes, one after the other
+unfoldable pub fedOf : Session → List ℕ → Session
+fedOf s [] = s
+fedOf s (c ∷ bytes) = fedOf (fedBy s c) bytes
 
 -- what is kept from read to read: a lawful bridge, and room for a line's bytes
 pub record Ready (s : Session) : Type 0 where

@@ -3,7 +3,7 @@ ghost use mathlib.Core.Path.{_≡_};
 ghost use Prim.Native.Nat.{_+_, _≤_};
 ghost use lib.ListN.{length};
 ghost use Rattle.bridge.specs.State.{Lawful};
-ghost use Rattle.listing.specs.Listing.{printedBytes, heldBytes, startOf, toldOf, listedOf, Ready};
+ghost use Rattle.listing.specs.Listing.{printedBytes, heldBytes, startOf, toldOf, listedOf, fedOf, Ready};
 use bridge::Bridge;
 use frame::Mac;
 use hexline::lines;
@@ -131,6 +131,7 @@ fn room(out: &[u8], filled: usize) -> usize
 fn fed(s: Session, bytes: &[u8], out: &mut [u8]) -> Session
     requires { ⌜ Ready s ⌝ }
     requires { ⌜ printedBytes ≤ length (now out) ⌝ }
+    ensures { λ r. ⌜ r ≡ fedOf s (now (bytes .entry)) ⌝ }
     ensures { λ r. ⌜ Ready r ⌝ }
 {
     let mut b = s.bridge;

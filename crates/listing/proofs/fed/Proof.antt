@@ -1,4 +1,4 @@
--- Line by line: the state stays lawful, and what is filled stays within the output.
+-- Line by line: what the bytes left lead to is what all bytes lead to, the state stays lawful, and what is filled stays within the output.
 use mathlib.Core.Path.{_≡_, refl, sym, ap, _∙_}
 use Prim.Native.Nat.{_+_, _-_, _^_, _<_, _≤_}
 use native.Mathlib.Nat.{add-sub-cancel-left}
@@ -8,15 +8,17 @@ use borrow.Rule.Slice.PartMut.{same-len-mid}
 use lib.ListN.{length, drop, length-drop}
 use lib.Seq.{length-take-le}
 use Rattle.hexline.specs.declared.lines.Stop.{Stop}
+use Rattle.hexline.specs.Line.{lineAt}
 use Rattle.hexline.proofs.LineLaws.{stop-within, scanned-length}
 use Rattle.bridge.specs.State.{Lawful}
-use Rattle.listing.specs.Listing.{printedBytes, heldBytes}
+use Rattle.listing.specs.Listing.{printedBytes, heldBytes, sessionAt, fedOf}
+use Rattle.listing.proofs.FedLaws.{fed-scan, fed-line, fed-end}
 use Rattle.listing.proofs.fed.Statement.{statement}
 use Rattle.listing.proofs.fed.Tie as tie
 
 abbrev Inv-loop : tie.InvT-loop
 Inv-loop bytes out₀ b₀ held₀ seen₀ filled₀ i₀ out b held seen filled i =
-    Lawful b × (length held ≡ heldBytes) × (length out ≡ length out₀) × (printedBytes ≤ length out₀) × (filled ≤ length out) × (i ≤ length bytes) × (length out₀ < 2 ^ 64) × (length bytes < 2 ^ 64)
+    Lawful b × (length held ≡ heldBytes) × (length out ≡ length out₀) × (printedBytes ≤ length out₀) × (filled ≤ length out) × (i ≤ length bytes) × (length out₀ < 2 ^ 64) × (length bytes < 2 ^ 64) × (fedOf (sessionAt b (lineAt held seen)) (drop i bytes) ≡ fedOf (sessionAt b₀ (lineAt held₀ seen₀)) bytes)
 
 abbrev μ-loop : tie.MeasureT-loop
 μ-loop bytes out₀ b₀ held₀ seen₀ filled₀ i₀ out b held seen filled i = length bytes - i
@@ -35,6 +37,16 @@ held-long c =
     let l = c .before .before .before .loop in
     ap length (c .scan .ensures .1) ∙ scanned-length _ _ (l .i) ∙ l .inv .1
 
+-- and what is left leads to what all bytes lead to
+kept-fed : (c : tie.After-scan Inv-loop μ-loop)
+    → let l = c .before .before .before .loop in
+    let a = c .before .before .before .before .before .before .before .before .args in
+    fedOf (sessionAt (l .b) (lineAt (c .scan .last .0) (c .scan .result .seen))) (drop (c .scan .result .at) (a .bytes .now)) ≡ fedOf (a .s) (a .bytes .now)
+kept-fed c =
+    let l = c .before .before .before .loop in
+    let a = c .before .before .before .before .before .before .before .before .args in
+    fed-scan (a .bytes .now) (l .i) (l .b) _ _ _ (c .scan .ensures .0) (c .scan .ensures .1) ∙ l .inv .8
+
 -- the loop's head, once there is room for a line
 abbrev at-room : tie.After-room Inv-loop μ-loop → tie.At-loop Inv-loop μ-loop
 at-room c = c .before .before .before .before .before .before .before .before .before
@@ -42,7 +54,7 @@ at-room c = c .before .before .before .before .before .before .before .before .b
 loop-holds : tie.Need-loop-holds Inv-loop μ-loop
 loop-holds c =
     let s = c .before .before .before .before in
-    (s .pre .0 .lawful, s .pre .0 .room, refl, s .pre .1, omega arith, omega arith, omega arith, omega arith)
+    (s .pre .0 .lawful, s .pre .0 .room, refl, s .pre .1, omega arith, omega arith, omega arith, omega arith, refl)
 
 scan-requires : tie.Need-scan-requires Inv-loop μ-loop
 scan-requires c κs = search needs
@@ -95,7 +107,8 @@ loop-again c =
     let l = at-room r .loop in
     let n = r .room .result in
     let kept = same-len-mid n (n + 9 - n) (l .out) (c .before .before .put-three .last .0) (c .before .before .put-three .kept .0) in
-    (a .answered .ensures .1, held-long (t .before), kept ∙ l .inv .2, l .inv .3, omega (arith, kept, r .room .ensures), omega (arith, t .if1 .taken), l .inv .6, l .inv .7)
+    let answer = fed-line _ (l .i) _ (l .b) _ _ _ (ap (λ (s : Stop). s .at) (t .before .scan .ensures .0)) (t .if1 .taken) (a .answered .ensures .0) in
+    (a .answered .ensures .1, held-long (t .before), kept ∙ l .inv .2, l .inv .3, omega (arith, kept, r .room .ensures), omega (arith, t .if1 .taken), l .inv .6, l .inv .7, answer ∙ kept-fed (t .before))
 
 loop-less-2 : tie.Need-loop-less-2 Inv-loop μ-loop
 loop-less-2 c = omega (arith, stopped (c .before), c .if1 .left, c .before .before .before .loop-test .taken)
@@ -103,7 +116,7 @@ loop-less-2 c = omega (arith, stopped (c .before), c .if1 .left, c .before .befo
 loop-again-2 : tie.Need-loop-again-2 Inv-loop μ-loop
 loop-again-2 c =
     let l = c .before .before .before .before .loop in
-    (l .inv .0, held-long (c .before), l .inv .2, l .inv .3, l .inv .4, omega (arith, stopped (c .before)), l .inv .6, l .inv .7)
+    (l .inv .0, held-long (c .before), l .inv .2, l .inv .3, l .inv .4, omega (arith, stopped (c .before)), l .inv .6, l .inv .7, kept-fed (c .before))
 
 slice-reshare-prefix-write-all : tie.Need-slice-reshare-prefix-write-all Inv-loop μ-loop
 slice-reshare-prefix-write-all c = c .before .loop .inv .4
@@ -118,7 +131,7 @@ same-length : tie.Need-same-length Inv-loop μ-loop
 same-length c = c .before .before .before .loop .inv .2
 
 returns : tie.Need-returns Inv-loop μ-loop
-returns c = record { lawful = c .before .before .before .loop .inv .0; room = c .before .before .before .loop .inv .1 }
+returns c = (fed-end _ _ _ _ (c .before .before .loop-test .left) (c .before .before .before .loop .inv .8), record { lawful = c .before .before .before .loop .inv .0; room = c .before .before .before .loop .inv .1 })
 
 pub fed-spec : {M : Type 1} → statement M
 fed-spec =
