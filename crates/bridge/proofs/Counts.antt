@@ -12,7 +12,7 @@ use lib.ListN.{length, set, replicate, length-set}
 use lib.Seq.{getD-set-same, getD-set-other}
 use Rattle.numbers.specs.Digits.{numberAt}
 use Rattle.times.specs.Times.{circle}
-use Rattle.precedence.specs.declared.Precedence.{Precedence}
+use Rattle.choice.specs.declared.Precedence.{Precedence}
 use Rattle.frame.specs.Read.{readOf}
 use Rattle.frame.specs.declared.Reading.{Reading}
 use Rattle.frame.specs.declared.Reading.the-variants as Readings
@@ -35,7 +35,7 @@ use Rattle.bridge.specs.declared.Bridge.{Bridge}
 use Rattle.bridge.specs.declared.Done.{Done}
 use Rattle.bridge.specs.declared.Linked.{Linked}
 use Rattle.bridge.specs.declared.LinkCount.the-variants.{Refused, Up}
-use Rattle.port.proofs.Choices.{if-when}
+use Rattle.numbers.proofs.Branches.{if-when}
 use Rattle.port.proofs.PortLaws.{received-count, aged-count}
 use Rattle.table.proofs.Walk.{each-at, each-length}
 use Rattle.bridge.proofs.Line.{sent-frame-count}

@@ -11,7 +11,7 @@ use lib.Pow.{pow-pos}
 use Rattle.times.specs.Times.{circle}
 use Rattle.times.specs.declared.LocalTime.{LocalTime}
 use Rattle.relay.specs.Sent.{longestElapsed}
-use Rattle.precedence.specs.declared.Precedence.{Precedence}
+use Rattle.choice.specs.declared.Precedence.{Precedence}
 use Rattle.frame.specs.Frame.{frameLength}
 use Rattle.frame.specs.Read.{readOf}
 use Rattle.frame.specs.Write.{unwritten}
@@ -38,8 +38,8 @@ use Rattle.bridge.specs.declared.Bridge.{Bridge}
 use Rattle.bridge.specs.declared.Done.{Done}
 use Rattle.bridge.specs.declared.Linked.{Linked}
 use Rattle.numbers.proofs.Places.{Bytes}
+use Rattle.numbers.proofs.Branches.{if-when}
 use Rattle.times.proofs.TestLaws.{both-hold}
-use Rattle.port.proofs.Choices.{if-when}
 use Rattle.port.proofs.PortLaws.{empty-lawful, used-lawful, aged-lawful, received-lawful, told-lawful, read-in-range, sending-written}
 use Rattle.table.proofs.Walk.{each-length, each-all, set-all}
 use Rattle.table.proofs.CheckLaws.{port-ready, own-ready}

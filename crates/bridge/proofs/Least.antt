@@ -6,13 +6,13 @@ use Prim.Native.Nat.{_≤_}
 use native.Mathlib.Nat.{le-trans, le-refl, le-of-lt}
 use borrow.Author.Tests.{ltb-true, ltb-false}
 use lib.Dec.{ltb}
-use Rattle.port.specs.Choose.{rankOf, ownCandidate, betterOf}
-use Rattle.port.specs.declared.Choice.{Choice}
-use Rattle.port.specs.declared.Choice.the-variants.{Nothing, Clock}
+use Rattle.choice.specs.Choose.{rankOf, ownCandidate, betterOf}
+use Rattle.choice.specs.declared.Choice.{Choice}
+use Rattle.choice.specs.declared.Choice.the-variants.{Nothing, Clock}
 use Rattle.table.specs.Table.{candidatesFrom, bestOf}
 use Rattle.bridge.specs.Chosen.{chosenOf}
 use Rattle.bridge.specs.declared.Bridge.{Bridge}
-use Rattle.port.proofs.Choices.{if-when}
+use Rattle.numbers.proofs.Branches.{if-when}
 
 -- own clock first, then the ports
 abbrev pub candidates : Bridge → List Choice

@@ -7,7 +7,7 @@ use native.Mathlib.Omega.{arith}
 use lib.Dec.{eqb, leb, ltb}
 use lib.ListN.{length}
 use Rattle.times.specs.Times.{circle, second}
-use Rattle.precedence.specs.declared.Precedence.{Precedence}
+use Rattle.choice.specs.declared.Precedence.{Precedence}
 use Rattle.frame.specs.Read.{unless, readOf}
 use Rattle.frame.specs.declared.Fields.{Fields}
 use Rattle.frame.specs.declared.Mac.{Mac}
@@ -32,7 +32,7 @@ use Rattle.bridge.specs.declared.Bridge.{Bridge}
 use Rattle.bridge.specs.declared.Done.{Done}
 use Rattle.bridge.specs.declared.Linked.{Linked}
 use Rattle.bridge.specs.declared.LinkCount.the-variants.{Refused}
-use Rattle.port.proofs.Choices.{if-when}
+use Rattle.numbers.proofs.Branches.{if-when}
 use Rattle.port.proofs.PortLaws.{received-refused, told-refused, NoFrame, sending-refused}
 use Rattle.table.proofs.CheckLaws.{port-most, send-most}
 

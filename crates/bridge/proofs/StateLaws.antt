@@ -11,7 +11,7 @@ use Rattle.times.specs.Times.{circle}
 use Rattle.relay.specs.declared.Drift.{Drift}
 use Rattle.relay.specs.declared.Drift.the-variants as Drifts
 use Rattle.relay.specs.Drift.{driftOf}
-use Rattle.precedence.specs.declared.Precedence.{Precedence}
+use Rattle.choice.specs.declared.Precedence.{Precedence}
 use Rattle.frame.specs.Frame.{frameLength}
 use Rattle.frame.specs.Read.{readOf}
 use Rattle.frame.specs.Write.{bytesOf, unwritten, writtenAs, writtenOf}
@@ -40,9 +40,9 @@ use Rattle.bridge.specs.Drift.{driftAt}
 use Rattle.bridge.specs.declared.Bridge.{Bridge}
 use Rattle.bridge.specs.declared.Done.{Done}
 use Rattle.bridge.specs.declared.LinkCount.the-variants.{Refused, Up}
-use Rattle.port.proofs.Choices.{if-true, if-false}
+use Rattle.numbers.proofs.Branches.{if-true, if-false}
 use native.Mathlib.Omega.{arith}
-use Rattle.port.specs.Choose.{ownCandidate}
+use Rattle.choice.specs.Choose.{ownCandidate}
 use Rattle.bridge.specs.Chosen.{chosenOf}
 use Rattle.table.proofs.TableLaws.{best-number}
 

@@ -1,5 +1,5 @@
 -- Chosen.
-use Rattle.port.specs.declared.Choice.{Choice}
+use Rattle.choice.specs.declared.Choice.{Choice}
 use Rattle.table.specs.Table.{choiceOf}
 use Rattle.bridge.specs.declared.Bridge.{Bridge}
 

@@ -6,11 +6,11 @@ use lib.Dec.{eqb}
 use lib.ListN.{getD}
 use Rattle.times.specs.declared.LocalTime.{LocalTime}
 use Rattle.relay.specs.declared.DelaySetting.{DelaySetting}
+use Rattle.choice.specs.Choose.{chosenHop}
 use Rattle.frame.specs.Read.{readOf}
 use Rattle.frame.specs.declared.Fields.{Fields}
 use Rattle.frame.specs.declared.Reading.{Reading}
 use Rattle.frame.specs.declared.Reading.the-variants.{Frame, Refused}
-use Rattle.port.specs.Choose.{chosenHop}
 use Rattle.port.specs.Receive.{receivedOf}
 use Rattle.port.specs.declared.Received.{Received}
 use Rattle.table.specs.Table.{portAt}

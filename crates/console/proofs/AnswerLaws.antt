@@ -16,7 +16,7 @@ use Rattle.relay.specs.Drift.{ppmOf, driftOf}
 use Rattle.relay.specs.Sent.{rateBetween}
 use Rattle.relay.specs.declared.Drift.{Drift}
 use Rattle.relay.specs.declared.Drift.the-variants.{PartsPerMillion, Refused as noClock}
-use Rattle.precedence.specs.declared.Precedence.{Precedence}
+use Rattle.choice.specs.declared.Precedence.{Precedence}
 use Rattle.frame.specs.Better.{standingOf, winnerOf, precedenceBytes, lies, pieceBy, betterOf}
 use Rattle.frame.specs.declared.Mac.{Mac}
 use Rattle.frame.specs.declared.Fields.{Fields}

@@ -9,6 +9,8 @@ use lib.Ieee.{toBits, binary64}
 use Rattle.numbers.specs.Digits.{digits}
 use Rattle.relay.specs.declared.Drift.{Drift}
 use Rattle.relay.specs.declared.Drift.the-variants.{NoReading, PartsPerMillion, Refused as noClock}
+use Rattle.choice.specs.declared.Choice.{Choice}
+use Rattle.choice.specs.declared.Choice.the-variants.{Nothing, Clock}
 use Rattle.frame.specs.Read.{readOf}
 use Rattle.frame.specs.Write.{unwritten, writtenOf}
 use Rattle.frame.specs.Better.{standingOf, winnerOf, precedenceStart, precedenceBytes}
@@ -16,8 +18,6 @@ use Rattle.frame.specs.declared.Reading.{Reading}
 use Rattle.frame.specs.declared.Reading.the-variants.{Frame, Refused as unread}
 use Rattle.frame.specs.declared.Winner.{Winner}
 use Rattle.frame.specs.declared.Winner.the-variants.{Neither, First, Second}
-use Rattle.port.specs.declared.Choice.{Choice}
-use Rattle.port.specs.declared.Choice.the-variants.{Nothing, Clock}
 use Rattle.port.specs.declared.Setting.{Setting}
 use Rattle.bridge.specs.State.{Lawful}
 use Rattle.bridge.specs.Setup.{defaultTimeout, defaultBack, setupOf}

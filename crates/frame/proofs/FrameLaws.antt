@@ -11,8 +11,8 @@ use borrow.Author.Tests.{eq-eqb, ne-eqb, eqb-true, eqb-false, ltb-true, leb-true
 use Rattle.numbers.specs.Table.{joined}
 use Rattle.times.specs.Hop.{lastHop}
 use Rattle.times.specs.Times.{second, circle}
-use Rattle.precedence.specs.Precedence.{keyOf}
-use Rattle.precedence.specs.declared.Precedence.{Precedence}
+use Rattle.choice.specs.Precedence.{keyOf}
+use Rattle.choice.specs.declared.Precedence.{Precedence}
 use Rattle.frame.specs.Frame.{frameLength, stationAddress, localExperimental, timeSync, firstVersion, widths, valuesOf, fieldsOf}
 use Rattle.frame.specs.Read.{unless, rowsOf, constantsNo, refusalOf, readAs, readOf}
 use Rattle.frame.specs.Write.{unwritten, bytesOf, writtenAs, writtenOf}

@@ -10,7 +10,7 @@ use lib.Seq.{take-all, take-at}
 use Rattle.numbers.specs.Digits.{onto, numberAt, digits}
 use Rattle.numbers.specs.Table.{total, parted, joined, Held}
 use Rattle.times.specs.Times.{units, InRange}
-use Rattle.precedence.specs.Precedence.{precedenceOf}
+use Rattle.choice.specs.Precedence.{precedenceOf}
 use Rattle.frame.specs.Frame.{frameLength, widths, valuesOf, fieldsOf}
 use Rattle.frame.specs.Read.{rowsOf, readOf}
 use Rattle.frame.specs.Write.{unwritten, bytesOf, writtenOf}

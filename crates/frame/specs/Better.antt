@@ -6,7 +6,7 @@ use lib.ListN.{take, drop}
 use lib.Dec.{ltb, eqb}
 use denote.Ref.{RefT, ptr, now}
 use Rattle.times.specs.Hop.{lastHop}
-use Rattle.precedence.specs.Precedence.{keyOf}
+use Rattle.choice.specs.Precedence.{keyOf}
 use Rattle.frame.specs.Read.{readOf}
 use Rattle.frame.specs.declared.Reading.{Reading}
 use Rattle.frame.specs.declared.Reading.the-variants.{Frame, Refused}

@@ -5,7 +5,7 @@ use crate::Reading;
 use crate::Standing;
 use crate::Winner;
 use crate::decoding;
-use precedence::ranking;
+use choice::ranking;
 use times::hops;
 
 // Where the 13 precedence bytes of a frame start and end.

@@ -7,7 +7,7 @@ use crate::Fields;
 use crate::Mac;
 use crate::Reading;
 use crate::layout;
-use precedence::Precedence;
+use choice::Precedence;
 use times::ErrorTime;
 use times::GrandTime;
 use times::LocalTime;

@@ -4,7 +4,7 @@ pub mod decoding;
 pub mod encoding;
 pub mod layout;
 
-use precedence::Precedence;
+use choice::Precedence;
 use times::ErrorTime;
 use times::GrandTime;
 use times::LocalTime;

@@ -5,9 +5,8 @@ use Prim.Native.Nat.{ℕ}
 use borrow.Author.Tests.{eq-eqb, ne-eqb}
 use lib.ListN.{getD, drop}
 use Rattle.numbers.specs.Digits.{numberAt}
-use Rattle.port.specs.declared.Choice.{Choice}
-use Rattle.port.specs.declared.Choice.the-variants.{Nothing, Clock}
-use Rattle.port.proofs.Choices.{if-true, if-false}
+use Rattle.choice.specs.declared.Choice.{Choice}
+use Rattle.choice.specs.declared.Choice.the-variants.{Nothing, Clock}
 use Rattle.bridge.specs.State.{Lawful}
 use Rattle.bridge.specs.Chosen.{chosenOf}
 use Rattle.bridge.specs.Receive.{receiveOf}
@@ -16,6 +15,7 @@ use Rattle.bridge.specs.declared.Done.{Done}
 use Rattle.hexline.specs.Line.{lineDigits}
 use Rattle.listing.specs.Listing.{badLine, toldBy, toldOf, doneOf, listedOf}
 use Rattle.listing.specs.declared.Listed.{Listed}
+use Rattle.numbers.proofs.Branches.{if-true, if-false}
 
 pub told-by : (b : Bridge) (answer : ℕ) {x : Choice} → x ≡ chosenOf b → toldBy x b answer ≡ toldOf b answer
 unfolding toldOf

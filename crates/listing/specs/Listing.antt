@@ -6,8 +6,8 @@ use Prim.Native.Nat.{ℕ}
 use lib.Dec.{eqb}
 use lib.ListN.{length, getD, drop, replicate}
 use Rattle.numbers.specs.Digits.{numberAt}
-use Rattle.port.specs.declared.Choice.{Choice}
-use Rattle.port.specs.declared.Choice.the-variants.{Nothing, Clock}
+use Rattle.choice.specs.declared.Choice.{Choice}
+use Rattle.choice.specs.declared.Choice.the-variants.{Nothing, Clock}
 use Rattle.table.specs.Table.{mostPorts}
 use Rattle.table.specs.Fits.{measuredSetting}
 use Rattle.bridge.specs.State.{Lawful}

@@ -5,13 +5,13 @@ ghost use lib.ListN.{length};
 ghost use Rattle.bridge.specs.State.{Lawful};
 ghost use Rattle.listing.specs.Listing.{printedBytes, heldBytes, startOf, toldOf, listedOf, fedOf, Ready};
 use bridge::Bridge;
+use choice::Choice;
+use choice::Precedence;
 use frame::Mac;
 use hexline::lines;
 use hexline::printing;
 use libc::STDIN_FILENO;
 use libc::STDOUT_FILENO;
-use port::Choice;
-use precedence::Precedence;
 
 // The listing's bridge: two ports, both linked.
 const PORTS: u8 = 2;

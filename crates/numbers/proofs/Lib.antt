@@ -4,3 +4,4 @@ pub mod Machine
 pub mod Places
 pub mod Table
 pub mod Pairs
+pub mod Branches

@@ -1,2 +1,1 @@
-pub mod Choices
 pub mod PortLaws

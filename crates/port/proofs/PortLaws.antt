@@ -1,11 +1,10 @@
 -- Laws of the records: one for each case of a definition, and that every step keeps a record lawful.
 use mathlib.Core.Path.{_≡_, refl, sym, ap, _∙_, subst}
-use mathlib.Core.Bool.{true, false}
+use mathlib.Core.Bool.{true}
 use mathlib.Core.List.{List}
 use Prim.Native.Nat.{ℕ, _<_, _≤_}
-use native.Mathlib.Nat.{le-antisymm}
 use native.Mathlib.Omega.{arith}
-use borrow.Author.Tests.{lt-ltb, le-ltb, ltb-true, ltb-false, eq-eqb, ne-eqb}
+use borrow.Author.Tests.{lt-ltb, le-ltb, eq-eqb, ne-eqb}
 use lib.Dec.{ltb, eqb}
 use lib.ListN.{length}
 use Rattle.numbers.specs.Table.{Held}
@@ -27,8 +26,11 @@ use Rattle.relay.specs.Sent.{sentOf}
 use Rattle.relay.specs.declared.DelaySetting.{DelaySetting}
 use Rattle.relay.specs.declared.Delay.{Delay}
 use Rattle.relay.specs.declared.Delay.the-variants.{Is, TooLong}
-use Rattle.precedence.specs.Precedence.{keyOf}
-use Rattle.precedence.specs.declared.Precedence.{Precedence}
+use Rattle.choice.specs.declared.Precedence.{Precedence}
+use Rattle.choice.specs.declared.Choice.{Choice}
+use Rattle.choice.specs.declared.Choice.the-variants.{Nothing, Clock}
+use Rattle.choice.specs.declared.Heard.{Heard}
+use Rattle.choice.specs.declared.Heard.the-variants.{Silent, Said}
 use Rattle.frame.specs.Frame.{frameLength, widths}
 use Rattle.frame.specs.Read.{rowsOf, readOf}
 use Rattle.frame.specs.Write.{unwritten}
@@ -39,27 +41,21 @@ use Rattle.port.specs.Record.{silenced, agedBy, agedPort, emptyPort, use
 use Rattle.port.specs.Lawful.{LawfulLast, LawfulStamps, LawfulPort, LawfulClock, FieldsInRange}
 use Rattle.port.specs.Own.{storedAs, ownSample, toldBy, toldOf}
 use Rattle.port.specs.Receive.{sampleOf, sameClock, notedPort, refusedBy, delayedBy, followedBy, countedBy, receivedOf}
-use Rattle.port.specs.Choose.{rankOf}
 use Rattle.port.specs.Send.{echoTx, echoRx, frameOf, sendingBy, sendingOf, sendingNo}
-use Rattle.port.specs.declared.Choice.{Choice}
-use Rattle.port.specs.declared.Choice.the-variants.{Nothing, Clock}
 use Rattle.port.specs.declared.Sending.{Sending}
 use Rattle.port.specs.declared.Sending.the-variants.{Refused, Frame}
 use Rattle.port.specs.declared.Last.{Last}
 use Rattle.port.specs.declared.Last.the-variants.{Never, Was}
-use Rattle.port.specs.declared.Heard.{Heard}
-use Rattle.port.specs.declared.Heard.the-variants.{Silent, Said}
 use Rattle.port.specs.declared.Port.{Port}
 use Rattle.port.specs.declared.OwnClock.{OwnClock}
 use Rattle.port.specs.declared.Received.{Received}
 use Rattle.port.specs.declared.Told.{Told}
-use Rattle.numbers.proofs.Pairs.{first-less, first-more, first-same}
 use Rattle.numbers.proofs.Places.{Bytes}
 use Rattle.numbers.proofs.Table.{held-at, held-parted}
+use Rattle.numbers.proofs.Branches.{if-true, if-false, if-when}
 use Rattle.samples.proofs.KeepLaws.{kept-lawful}
 use Rattle.relay.proofs.SentLaws.{sent-range}
 use Rattle.frame.proofs.FrameLaws.{accepted, reading, unrefused}
-use Rattle.port.proofs.Choices.{if-true, if-false, if-when}
 
 -- ---- ageing
 
@@ -196,21 +192,6 @@ told-refused count grand at clock = go (clock .last)
     go : (last : Last) → RefusedClock count at clock (toldBy last count grand at (clock .samples))
     go Never = λ _. record { number = refl; stored = refl }
     go (Was held when) = if-when (RefusedClock count at clock) (eqb count (nextCount held)) (λ _ n. absurd (n refl)) (λ _ _. record { number = refl; stored = refl })
-
--- ---- ranks
-
-module _ (p q : Precedence) (h k i j : ℕ) where
-  pub rank-less : i < 256 → ltb (keyOf p h) (keyOf q k) ≡ true → true ≡ ltb (rankOf p h i) (rankOf q k j)
-  unfolding rankOf
-  rank-less l e = first-less 256 (keyOf p h) (keyOf q k) i j (ltb-true _ _ e) l
-
-  pub rank-more : j < 256 → ltb (keyOf q k) (keyOf p h) ≡ true → false ≡ ltb (rankOf p h i) (rankOf q k j)
-  unfolding rankOf
-  rank-more l e = first-more 256 (keyOf p h) (keyOf q k) i j (ltb-true _ _ e) l
-
-  pub rank-tie : ltb (keyOf p h) (keyOf q k) ≡ false → ltb (keyOf q k) (keyOf p h) ≡ false → ltb i j ≡ ltb (rankOf p h i) (rankOf q k j)
-  unfolding rankOf
-  rank-tie e g = first-same 256 (keyOf p h) (keyOf q k) i j (le-antisymm (ltb-false _ _ g) (ltb-false _ _ e))
 
 -- ---- sending
 

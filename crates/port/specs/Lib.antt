@@ -2,5 +2,4 @@ pub mod Record
 pub mod Lawful
 pub mod Own
 pub mod Receive
-pub mod Choose
 pub mod Send

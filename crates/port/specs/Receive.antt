@@ -13,13 +13,13 @@ use Rattle.relay.specs.Delay.{linkDelayOf}
 use Rattle.relay.specs.declared.DelaySetting.{DelaySetting}
 use Rattle.relay.specs.declared.Delay.{Delay}
 use Rattle.relay.specs.declared.Delay.the-variants.{Is, TooLong}
-use Rattle.precedence.specs.Precedence.{precedenceOf}
-use Rattle.precedence.specs.declared.Precedence.{Precedence}
+use Rattle.choice.specs.Precedence.{precedenceOf}
+use Rattle.choice.specs.declared.Precedence.{Precedence}
+use Rattle.choice.specs.declared.Heard.{Heard}
+use Rattle.choice.specs.declared.Heard.the-variants.{Silent, Said}
 use Rattle.frame.specs.declared.Fields.{Fields}
 use Rattle.port.specs.declared.Last.{Last}
 use Rattle.port.specs.declared.Last.the-variants.{Never, Was}
-use Rattle.port.specs.declared.Heard.{Heard}
-use Rattle.port.specs.declared.Heard.the-variants.{Silent, Said}
 use Rattle.port.specs.declared.Port.{Port}
 use Rattle.port.specs.declared.Received.{Received}
 

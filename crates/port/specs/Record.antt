@@ -6,9 +6,9 @@ use Rattle.times.specs.Times.{sinceOf, nextCount}
 use Rattle.times.specs.declared.LocalTime.{LocalTime}
 use Rattle.samples.specs.declared.Samples.the-variants.{Empty}
 use Rattle.samples.specs.declared.Stamps.the-variants.{Unset}
+use Rattle.choice.specs.declared.Heard.{Heard}
+use Rattle.choice.specs.declared.Heard.the-variants.{Silent, Said}
 use Rattle.port.specs.declared.Last.the-variants.{Never}
-use Rattle.port.specs.declared.Heard.{Heard}
-use Rattle.port.specs.declared.Heard.the-variants.{Silent, Said}
 use Rattle.port.specs.declared.Port.{Port}
 use Rattle.port.specs.declared.OwnClock.{OwnClock}
 

@@ -10,13 +10,13 @@ use Rattle.samples.specs.declared.Stamps.the-variants.{Unset, Set}
 use Rattle.relay.specs.Sent.{sentOf, sentNo}
 use Rattle.relay.specs.declared.Sent.{Sent}
 use Rattle.relay.specs.declared.Sent.the-variants.{At, Few, Late, Beyond}
-use Rattle.precedence.specs.declared.Precedence.{Precedence}
+use Rattle.choice.specs.declared.Precedence.{Precedence}
+use Rattle.choice.specs.declared.Choice.{Choice}
+use Rattle.choice.specs.declared.Choice.the-variants.{Nothing, Clock}
 use Rattle.frame.specs.Write.{unwritten, writtenOf}
 use Rattle.frame.specs.declared.Mac.{Mac}
 use Rattle.frame.specs.declared.Fields.{Fields}
 use Rattle.port.specs.declared.Port.{Port}
-use Rattle.port.specs.declared.Choice.{Choice}
-use Rattle.port.specs.declared.Choice.the-variants.{Nothing, Clock}
 use Rattle.port.specs.declared.Sending.{Sending}
 use Rattle.port.specs.declared.Sending.the-variants.{Refused, Frame}
 

@@ -1,10 +1,10 @@
 // Records that are empty, that lose what is too old, and that use up a frameCount.
 ghost use mathlib.Core.Path.{_≡_};
 ghost use Rattle.port.specs.Record.{emptyPort, emptyClock, agedPort, usedPort};
-use crate::Heard;
 use crate::Last;
 use crate::OwnClock;
 use crate::Port;
+use choice::Heard;
 use samples::Samples;
 use samples::Stamps;
 use times::LocalTime;

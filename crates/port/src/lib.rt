@@ -2,11 +2,10 @@
 pub mod ageing;
 pub mod composing;
 pub mod hearing;
-pub mod ranking;
 pub mod telling;
 
+use choice::Heard;
 use frame::Fields;
-use precedence::Precedence;
 use relay::DelaySetting;
 use samples::Samples;
 use samples::Stamps;
@@ -16,12 +15,6 @@ use times::LocalTime;
 pub enum Last {
     Never,
     Was(u8, LocalTime),
-}
-
-// The announcement: precedence, held hop, and when it was heard.
-pub enum Heard {
-    Silent,
-    Said(Precedence, u8, LocalTime),
 }
 
 // All that is stored of a port.
@@ -55,12 +48,6 @@ pub struct Received {
 pub struct Told {
     pub answer: u8,
     pub clock: OwnClock,
-}
-
-// A clock to be chosen, or none: precedence, held hop, and port, 0 for the own clock.
-pub enum Choice {
-    Nothing,
-    Clock(Precedence, u8, u8),
 }
 
 // The fields of a frame to be sent, or the refusal's number.

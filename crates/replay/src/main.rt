@@ -9,10 +9,10 @@ ghost use Rattle.bridge.specs.Setup.{noBridge};
 ghost use Rattle.words.specs.Said.{longest};
 ghost use Rattle.replay.specs.Replay.{keptBytes, textBytes, hasNewline, lineEnd, left, fedOf, keptOf, lineOf, Ready};
 use bridge::Bridge;
+use choice::Precedence;
 use frame::Mac;
 use libc::STDIN_FILENO;
 use libc::STDOUT_FILENO;
-use precedence::Precedence;
 
 // What ends a line.
 const NEWLINE: u8 = b'\n';

@@ -10,20 +10,20 @@ use lib.Dec.{eqb, ltb}
 use lib.ListN.{length, getD, take, drop}
 use lib.Seq.{drop-cons, drop-length, getD-take, length-take-le}
 use Rattle.samples.specs.Keep.{LawfulSamples}
+use Rattle.choice.specs.Choose.{rankOf, candidateOf, betterOf}
+use Rattle.choice.specs.declared.Heard.{Heard}
+use Rattle.choice.specs.declared.Heard.the-variants.{Silent, Said}
+use Rattle.choice.specs.declared.Choice.{Choice}
+use Rattle.choice.specs.declared.Choice.the-variants.{Nothing, Clock}
 use Rattle.port.specs.Record.{emptyPort}
 use Rattle.port.specs.Lawful.{LawfulPort, LawfulClock}
-use Rattle.port.specs.Choose.{rankOf, candidateOf, betterOf}
-use Rattle.port.specs.declared.Heard.{Heard}
-use Rattle.port.specs.declared.Heard.the-variants.{Silent, Said}
 use Rattle.port.specs.declared.Port.{Port}
 use Rattle.port.specs.declared.OwnClock.{OwnClock}
 use Rattle.port.specs.declared.Setting.{Setting}
-use Rattle.port.specs.declared.Choice.{Choice}
-use Rattle.port.specs.declared.Choice.the-variants.{Nothing, Clock}
 use Rattle.table.specs.Refusals.{bit}
 use Rattle.table.specs.Table.{portAt, relinkedPort, samplesAt, numberOf, samplesOfChoice, candidatesFrom, bestOf}
 use Rattle.table.specs.Fits.{delayFits, delaysFit}
-use Rattle.port.proofs.Choices.{if-when}
+use Rattle.numbers.proofs.Branches.{if-when}
 
 -- ---- the choice, port by port
 

@@ -5,13 +5,13 @@ ghost use lib.ListN.{replicate};
 ghost use Rattle.port.specs.Record.{agedPort};
 ghost use Rattle.table.specs.Table.{each, samplesAt, samplesOfChoice, numberOf, relinkedPort, choiceOf};
 ghost use Rattle.table.specs.Fits.{measuredSetting};
-use port::Choice;
+use choice::Choice;
+use choice::Precedence;
+use choice::candidates;
 use port::OwnClock;
 use port::Port;
 use port::Setting;
 use port::ageing;
-use port::ranking;
-use precedence::Precedence;
 use relay::DelaySetting;
 use samples::Samples;
 use times::LocalTime;
@@ -74,12 +74,12 @@ pub fn relinked(ports: [Port; 8], links: u8, mask: u8) -> [Port; 8]
 pub fn choice(capable: bool, own: Precedence, ports: [Port; 8]) -> Choice
     ensures { λ r. ⌜ r ≡ choiceOf capable own ports ⌝ }
 {
-    let mut best = ranking::own_candidate(capable, own);
+    let mut best = candidates::own_candidate(capable, own);
     let mut i: usize = 0;
     while i < PORTS {
         let port = ports[i];
         let heard = port.heard;
-        best = ranking::better(best, ranking::candidate(heard, (i + 1) as u8));
+        best = candidates::better(best, candidates::candidate(heard, (i + 1) as u8));
         i += 1;
     }
     best

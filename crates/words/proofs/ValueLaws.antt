@@ -14,7 +14,7 @@ use Rattle.times.specs.declared.GrandTime.{GrandTime}
 use Rattle.times.specs.declared.LocalTime.{LocalTime}
 use Rattle.times.specs.declared.ErrorTime.{ErrorTime}
 use Rattle.relay.specs.declared.DelaySetting.the-variants.{Measured}
-use Rattle.precedence.specs.declared.Precedence.{Precedence}
+use Rattle.choice.specs.declared.Precedence.{Precedence}
 use Rattle.frame.specs.declared.Mac.{Mac}
 use Rattle.port.specs.declared.Setting.{Setting}
 use Rattle.hexline.specs.Digit.{allDigits, pairs}

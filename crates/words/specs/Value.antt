@@ -6,7 +6,7 @@ use lib.ListN.{length, getD, drop}
 use lib.Dec.{ltb, leb, eqb}
 use Rattle.numbers.specs.Digits.{numberAt}
 use Rattle.relay.specs.declared.DelaySetting.the-variants.{Measured, Fixed}
-use Rattle.precedence.specs.declared.Precedence.{Precedence}
+use Rattle.choice.specs.declared.Precedence.{Precedence}
 use Rattle.frame.specs.declared.Mac.{Mac}
 use Rattle.port.specs.declared.Setting.{Setting}
 use Rattle.hexline.specs.Digit.{allDigits, worth, pairs}

@@ -3,9 +3,9 @@ pub mod cutting;
 pub mod printing;
 pub mod reading;
 
+use choice::Precedence;
 use frame::Fields;
 use frame::Mac;
-use precedence::Precedence;
 use relay::DelaySetting;
 use times::ErrorTime;
 use times::GrandTime;

@@ -4,11 +4,11 @@ ghost use mathlib.Core.List.{_++_};
 ghost use Prim.Native.Nat.{_+_, _*_, _≤_};
 ghost use lib.ListN.{length, take, drop};
 ghost use Rattle.words.specs.Said.{longest, fieldsLength, line1, line2, lineBytes, lineWith, column, macAt, precedenceAt, restAt, fieldsLine, Prints};
+use choice::Precedence;
 use frame::Fields;
 use frame::Mac;
 use hexline::printing;
 use numbers::digits;
-use precedence::Precedence;
 
 const SPACE: u8 = b' ';
 

@@ -3,8 +3,8 @@ use borrow.Author.Needs.{needs}
 use mathlib.Core.Path.{sym, ap, _∙_, subst}
 use Prim.Native.Nat.{_≤_}
 use Rattle.samples.specs.Keep.{LawfulSamples}
+use Rattle.choice.specs.declared.Choice.{Choice}
 use Rattle.port.specs.Send.{sendingOf}
-use Rattle.port.specs.declared.Choice.{Choice}
 use Rattle.table.specs.Table.{portAt, numberOf, samplesOfChoice}
 use Rattle.bridge.specs.Chosen.{chosenOf}
 use Rattle.bridge.specs.Send.{composedOf}

@@ -2,7 +2,7 @@
 use borrow.Author.Needs.{needs}
 use mathlib.Core.Path.{ap, _∙_}
 use Prim.Native.Nat.{ℕ}
-use Rattle.port.specs.Choose.{chosenHop}
+use Rattle.choice.specs.Choose.{chosenHop}
 use Rattle.port.specs.Receive.{receivedOf}
 use Rattle.table.specs.Table.{portAt}
 use Rattle.bridge.specs.Chosen.{chosenOf}

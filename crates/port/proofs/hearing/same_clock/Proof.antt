@@ -1,7 +1,7 @@
 -- By the announcement, and by the two precedences.
 use mathlib.Core.Path.{sym, ap, _∙_}
+use Rattle.choice.specs.declared.Heard.{Heard}
 use Rattle.port.specs.Receive.{sameClock}
-use Rattle.port.specs.declared.Heard.{Heard}
 use borrow.Author.Needs.{needs}
 use Rattle.port.proofs.hearing.same_clock.Statement.{statement}
 use Rattle.port.proofs.hearing.same_clock.Tie as tie

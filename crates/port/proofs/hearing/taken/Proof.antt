@@ -2,9 +2,9 @@
 use mathlib.Core.Path.{_≡_, _∙_}
 use Rattle.samples.specs.Keep.{keptOf}
 use Rattle.samples.specs.declared.Stamps.the-variants.{Set}
+use Rattle.choice.specs.declared.Heard.the-variants.{Said}
 use Rattle.port.specs.Receive.{sampleOf, sameClock}
 use Rattle.port.specs.declared.Last.the-variants.{Was}
-use Rattle.port.specs.declared.Heard.the-variants.{Said}
 use borrow.Author.Needs.{needs}
 use Rattle.port.proofs.hearing.taken.Statement.{statement}
 use Rattle.port.proofs.hearing.taken.Tie as tie

@@ -4,9 +4,9 @@ use Prim.Native.Nat.{_+_, _-_, _≤_}
 use native.Mathlib.Omega.{arith}
 use borrow.Author.Needs.{needs}
 use lib.ListN.{length, drop}
+use Rattle.choice.specs.Choose.{betterOf}
+use Rattle.choice.specs.declared.Choice.{Choice}
 use Rattle.port.specs.Record.{emptyPort}
-use Rattle.port.specs.Choose.{betterOf}
-use Rattle.port.specs.declared.Choice.{Choice}
 use Rattle.table.specs.Table.{candidatesFrom, bestOf}
 use Rattle.table.proofs.TableLaws.{best-turn, best-end}
 use Rattle.table.proofs.records.choice.Statement.{statement}

@@ -1,7 +1,7 @@
 -- By whether a clock is chosen.
 use mathlib.Core.Path.{sym, ap, _∙_, subst}
 use Prim.Native.Nat.{_≤_}
-use Rattle.port.specs.declared.Choice.{Choice}
+use Rattle.choice.specs.declared.Choice.{Choice}
 use Rattle.table.specs.Table.{numberOf, samplesOfChoice}
 use Rattle.table.proofs.TableLaws.{samples-none}
 use borrow.Author.Needs.{needs}
