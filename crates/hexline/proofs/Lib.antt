@@ -1,4 +1,5 @@
 pub mod DigitLaws
+pub mod SearchLaws
 pub mod LineLaws
 pub mod PrintLaws
 pub mod WholeLine

@@ -3,14 +3,14 @@ use mathlib.Core.Path.{_≡_, refl, sym, ap, _∙_}
 use mathlib.Core.Bool.{Bool, true, false, cond}
 use Prim.Native.Nat.{ℕ, _+_, _/_, _<_, _≤_}
 use mathlib.Core.List.{List, [], _∷_}
-use native.Mathlib.Numerals.{add-one}
 use native.Mathlib.Omega.{arith}
-use lib.Dec.{ltb, eqb}
-use lib.ListN.{length, drop, getD, set, drop-of-length-le, length-drop, length-set}
-use lib.Seq.{drop-cons}
-use borrow.Author.Tests.{lt-ltb, le-ltb, eq-eqb, ne-eqb}
+use lib.Dec.{ltb}
+use lib.ListN.{length, drop, getD, set, length-set}
+use borrow.Author.Tests.{lt-ltb, le-ltb}
 use Rattle.hexline.specs.Digit.{noDigit, valueOf, isDigit}
+use Rattle.hexline.specs.Search.{foundAt}
 use Rattle.hexline.specs.Line.{lineDigits, noLine, newline, Line, lineAt, moved, more, spoilt, stepOf, stepsOf, untilNewline, scanned, stopOf}
+use Rattle.hexline.proofs.SearchLaws.{up-next}
 
 -- ---- a step, by its three outcomes
 
@@ -30,28 +30,12 @@ step-past held seen c h = rw (le-ltb seen lineDigits h)
 
 -- ---- the scan
 
-pub until-stop : (s : List ℕ) (i : ℕ) → i < length s → getD s i 0 ≡ newline → untilNewline (drop i s) ≡ []
-unfolding untilNewline
-until-stop s i h e = rw (drop-cons s i 0, eq-eqb (getD s i 0) newline e)
-
-pub until-next : (s : List ℕ) (i : ℕ) → i < length s → (getD s i 0 ≡ newline → ⊥) → untilNewline (drop i s) ≡ getD s i 0 ∷ untilNewline (drop (i + 1) s)
-unfolding untilNewline
-until-next s i h e = rw (add-one, drop-cons s i 0, ne-eqb (getD s i 0) newline e)
-
-pub until-end : (s : List ℕ) (i : ℕ) → length s ≤ i → untilNewline (drop i s) ≡ []
-unfolding untilNewline
-until-end s i h = rw (drop-of-length-le s h)
-
 -- one byte that is no newline
 pub scan-next : (l m : Line) (s : List ℕ) (i : ℕ) → i < length s → (getD s i 0 ≡ newline → ⊥) → m ≡ stepOf l (getD s i 0)
     → scanned m s (i + 1) ≡ scanned l s i
 unfolding stepsOf
 scan-next l m s i h e k =
-    ap (λ (x : Line). stepsOf x (untilNewline (drop (i + 1) s))) k ∙ ap (stepsOf l) (sym (until-next s i h e))
-
-pub place-next : (s : List ℕ) (i : ℕ) → i < length s → (getD s i 0 ≡ newline → ⊥)
-    → i + 1 + length (untilNewline (drop (i + 1) s)) ≡ i + length (untilNewline (drop i s))
-place-next s i h e = rw (until-next s i h e) (omega arith)
+    ap (λ (x : Line). stepsOf x (untilNewline (drop (i + 1) s))) k ∙ ap (stepsOf l) (sym (up-next newline s i h e))
 
 -- where nothing is left to step over
 pub scan-end : (l m : Line) (s : List ℕ) (i from : ℕ) → untilNewline (drop i s) ≡ [] → scanned l s i ≡ scanned m s from → l ≡ scanned m s from
@@ -59,26 +43,12 @@ unfolding stepsOf
 scan-end l m s i from e k = sym (ap (stepsOf l) e) ∙ k
 
 pub stop-end : (l m : Line) (s : List ℕ) (i from : ℕ) → untilNewline (drop i s) ≡ [] → scanned l s i ≡ scanned m s from
-    → i + length (untilNewline (drop i s)) ≡ from + length (untilNewline (drop from s))
-    → record { at = i; seen = l .seen } ≡ stopOf m s from
+    → foundAt newline s i ≡ foundAt newline s from → record { at = i; seen = l .seen } ≡ stopOf m s from
 stop-end l m s i from e k p =
-    let q : i ≡ from + length (untilNewline (drop from s)) = omega (arith, ap length e) in
+    let q : i ≡ foundAt newline s from = omega (arith, ap length e) in
     λ j. record { at = q j; seen = scan-end l m s i from e k j .seen }
 
--- a scan stops within the bytes
-until-short : (s : List ℕ) → length (untilNewline s) ≤ length s
-unfolding untilNewline
-until-short [] = omega arith
-until-short (c ∷ s) = go (eqb c newline) (until-short s)
-  where
-    go : (b : Bool) → length (untilNewline s) ≤ length s → length (cond b [] (c ∷ untilNewline s)) ≤ length (c ∷ s)
-    go true h = omega arith
-    go false h = omega arith
-
-pub stop-within : (s : List ℕ) (from : ℕ) → from ≤ length s → from + length (untilNewline (drop from s)) ≤ length s
-stop-within s from h = omega (arith, until-short (drop from s), length-drop from s)
-
--- and fills as many bytes as it was lent
+-- a scan fills as many bytes as it was lent
 step-length : (l : Line) (c : ℕ) → length (stepOf l c .held) ≡ length (l .held)
 unfolding stepOf
 step-length l c = go (ltb (l .seen) lineDigits) (isDigit c)

@@ -9,6 +9,7 @@ use lib.ListN.{length, take, drop, getD, set, length-set, length-drop}
 use lib.Seq.{take-suc-set, append-snoc, take-length, set-set, getD-set-same, getD-drop, length-take-le}
 use borrow.Author.Tests.{ltb-true, ltb-false, eqb-true, eq-eqb, ne-eqb}
 use Rattle.hexline.specs.Digit.{noDigit, valueOf, isDigit, allDigits, byteOf, pairs}
+use Rattle.hexline.specs.Search.{upTo, foundAt}
 use Rattle.hexline.specs.Line.{lineDigits, noLine, newline, Line, lineAt, moved, stepOf, stepsOf, isLine, lineOf, untilNewline, scanned, stopOf, Whole}
 use Rattle.hexline.proofs.LineLaws.{step-more, step-bad, step-past}
 
@@ -151,7 +152,7 @@ digit-no-newline c d e = true≢false (sym d ∙ ap isDigit e)
 
 -- n digits and a newline: that is what is stepped over
 until-digits : (n : ℕ) (s : List ℕ) → n < length s → getD s n 0 ≡ newline → allDigits (take n s) ≡ true → untilNewline s ≡ take n s
-unfolding untilNewline allDigits
+unfolding upTo allDigits
 until-digits n [] h e d = absurd (omega arith)
 until-digits zero (c ∷ s) h e d = rw (eq-eqb c newline e)
 until-digits (suc n) (c ∷ s) h e d =
@@ -171,7 +172,7 @@ whole-line s from w = rw (eq-eqb (length (take lineDigits (drop from s))) lineDi
 pub whole-stop : (held s : List ℕ) (from : ℕ) → Whole s from → record { at = from + lineDigits; seen = lineDigits } ≡ stopOf (lineAt held 0) s from
 whole-stop held s from w =
     let u = whole-until s from w in
-    let p : from + lineDigits ≡ from + length (untilNewline (drop from s)) = ap (λ (n : ℕ). from + n) (sym (ap length u ∙ whole-length s from w)) in
+    let p : from + lineDigits ≡ foundAt newline s from = ap (λ (n : ℕ). from + n) (sym (ap length u ∙ whole-length s from w)) in
     let q : lineDigits ≡ scanned (lineAt held 0) s from .seen =
     sym (ap (λ (x : List ℕ). stepsOf (lineAt held 0) x .seen) u ∙ every-line held (take lineDigits (drop from s)) (whole-line s from w)) in
     λ j. record { at = p j; seen = q j }

@@ -1,3 +1,4 @@
 pub mod Digit
+pub mod Search
 pub mod Line
 pub mod Print

@@ -6,6 +6,7 @@ use mathlib.Core.List.{List, [], _∷_}
 use lib.ListN.{length, getD, set, take, drop}
 use lib.Dec.{ltb, eqb}
 use Rattle.hexline.specs.Digit.{isDigit, valueOf, allDigits, pairs}
+use Rattle.hexline.specs.Search.{upTo, foundAt}
 use Rattle.hexline.specs.declared.lines.Stop.{Stop}
 
 -- the digits of a line, and the count that stands for what can't be a line any more
@@ -58,16 +59,15 @@ stepsOf l [] = l
 stepsOf l (c ∷ s) = stepsOf (stepOf l c) s
 
 -- the bytes before the first newline
-unfoldable pub untilNewline : List ℕ → List ℕ
-untilNewline [] = []
-untilNewline (c ∷ s) = cond (eqb c newline) [] (c ∷ untilNewline s)
+abbrev pub untilNewline : List ℕ → List ℕ
+untilNewline s = upTo newline s
 
 -- from byte `from` on up to a newline or the end: the line then, and where that is
 abbrev pub scanned : Line → List ℕ → ℕ → Line
 scanned l bytes from = stepsOf l (untilNewline (drop from bytes))
 
 abbrev pub stopOf : Line → List ℕ → ℕ → Stop
-stopOf l bytes from = record { at = from + length (untilNewline (drop from bytes)); seen = scanned l bytes from .seen }
+stopOf l bytes from = record { at = foundAt newline bytes from; seen = scanned l bytes from .seen }
 
 -- a whole line and its newline stand at `from`
 abbrev pub Whole : List ℕ → ℕ → Type 0

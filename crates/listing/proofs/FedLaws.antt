@@ -8,6 +8,7 @@ use lib.Dec.{eqb}
 use lib.ListN.{length, drop, length-drop, drop-of-length-le}
 use lib.Seq.{drop-drop}
 use Rattle.bridge.specs.declared.Bridge.{Bridge}
+use Rattle.hexline.specs.Search.{upTo}
 use Rattle.hexline.specs.Line.{newline, Line, lineAt, stepOf, stepsOf, untilNewline, scanned, stopOf}
 use Rattle.hexline.specs.declared.lines.Stop.{Stop}
 use Rattle.listing.specs.Listing.{listedOf, sessionAt, afterLine, fedBy, fedOf}
@@ -26,12 +27,12 @@ Until bytes b l =
     fedOf (sessionAt b (stepsOf l (untilNewline bytes))) (drop (length (untilNewline bytes)) bytes) ≡ fedOf (sessionAt b l) bytes
 
 until-by : (c : ℕ) (bytes : List ℕ) (b : Bridge) (l : Line) (t : Bool) → eqb c newline ≡ t → Until bytes b (stepOf l c) → Until (c ∷ bytes) b l
-unfolding fedOf fedBy stepsOf untilNewline
+unfolding fedOf fedBy stepsOf upTo
 until-by c bytes b l true e rest = rw e (rw e)
 until-by c bytes b l false e rest = rw e rest
 
 fed-until : (bytes : List ℕ) (b : Bridge) (l : Line) → Until bytes b l
-unfolding fedOf stepsOf untilNewline
+unfolding fedOf stepsOf upTo
 fed-until [] b l = refl
 fed-until (c ∷ bytes) b l = until-by c bytes b l (eqb c newline) refl (fed-until bytes b (stepOf l c))
 
@@ -41,7 +42,7 @@ Answered bytes s =
     length (untilNewline bytes) < length bytes → fedOf (afterLine s) (drop (suc (length (untilNewline bytes))) bytes) ≡ fedOf s (drop (length (untilNewline bytes)) bytes)
 
 answered-by : (c : ℕ) (bytes : List ℕ) (s : Session) (t : Bool) → eqb c newline ≡ t → Answered bytes s → Answered (c ∷ bytes) s
-unfolding fedOf fedBy untilNewline
+unfolding fedOf fedBy upTo
 answered-by c bytes s true e rest h = rw e (rw e)
 answered-by c bytes s false e rest h = let k = rw e at h in rw e (rest (omega arith))
 

@@ -8,20 +8,22 @@ use lib.Dec.{eqb}
 use lib.ListN.{length, take, drop}
 use lib.Seq.{append-snoc, take-all}
 use Rattle.bridge.specs.declared.Bridge.{Bridge}
+use Rattle.hexline.specs.Search.{contains, upTo}
 use Rattle.hexline.specs.Line.{newline, untilNewline}
 use Rattle.console.specs.Answer.{Answer, answerOf}
 use Rattle.replay.specs.Replay.{keptBytes, hasNewline, lineEnd, Fed, left, fedOf, keptOf}
-use Rattle.replay.proofs.ReplayLaws.{until-take, fed-line, fed-rest}
+use Rattle.hexline.proofs.SearchLaws.{up-taken}
+use Rattle.replay.proofs.ReplayLaws.{fed-line, fed-rest}
 use Rattle.replay.proofs.KeptLine.{kept-answers}
 
 -- ---- bytes without a newline
 
 pub clean-none : hasNewline [] ≡ false
-unfolding hasNewline
+unfolding contains
 clean-none = refl
 
 clean-take : (n : ℕ) (s : List ℕ) → hasNewline s ≡ false → hasNewline (take n s) ≡ false
-unfolding hasNewline
+unfolding contains
 clean-take zero s e = refl
 clean-take (suc n) [] e = refl
 clean-take (suc n) (c ∷ s) e = go (clean-take n s) (eqb c newline) e
@@ -31,7 +33,7 @@ clean-take (suc n) (c ∷ s) e = go (clean-take n s) (eqb c newline) e
     go rest false k = rest k
 
 clean-both : (s t : List ℕ) → hasNewline s ≡ false → hasNewline t ≡ false → hasNewline (s ++ t) ≡ false
-unfolding hasNewline
+unfolding contains
 clean-both [] t e k = k
 clean-both (c ∷ s) t e k = go (λ h. clean-both s t h k) (eqb c newline) e
   where
@@ -40,11 +42,11 @@ clean-both (c ∷ s) t e k = go (λ h. clean-both s t h k) (eqb c newline) e
     go rest false h = rest h
 
 clean-one : (c : ℕ) → eqb c newline ≡ false → hasNewline (c ∷ []) ≡ false
-unfolding hasNewline
+unfolding contains
 clean-one c e = rw e
 
 clean-until : (s : List ℕ) → hasNewline (untilNewline s) ≡ false
-unfolding hasNewline untilNewline
+unfolding contains upTo
 clean-until [] = refl
 clean-until (c ∷ s) = go (clean-until s) (eqb c newline) refl
   where
@@ -71,7 +73,7 @@ clean-kept b line s kept e k = ap hasNewline k ∙ clean-take keptBytes (fedOf b
 -- ---- one line and its newline
 
 fed-one : (s line : List ℕ) (b : Bridge) → hasNewline s ≡ false → fedOf b line (s ++ (newline ∷ [])) ≡ left (answerOf b (line ++ s) .next) []
-unfolding fedOf hasNewline
+unfolding fedOf contains
 fed-one [] line b e = ap (λ (x : List ℕ). left (answerOf b x .next) []) (sym (append-nil line))
 fed-one (c ∷ s) line b e = go (fed-one s (line ++ (c ∷ [])) b) (eqb c newline) e
   where
@@ -86,7 +88,7 @@ fed-one (c ∷ s) line b e = go (fed-one s (line ++ (c ∷ [])) b) (eqb c newlin
 until-end : (bytes : List ℕ) (end : ℕ) → end ≡ lineEnd bytes 0 → take end bytes ≡ untilNewline bytes
 until-end bytes end e =
     let n : end ≡ length (untilNewline bytes) = omega (arith, e) in
-    rw n (until-take bytes)
+    rw n (up-taken newline bytes)
 
 -- no line ends in it
 pub read-none : (b : Bridge) (line bytes : List ℕ) (end : ℕ) → end ≡ lineEnd bytes 0 → end ≡ length bytes → fedOf b line bytes ≡ left b (line ++ take end bytes)

@@ -1,72 +1,26 @@
--- Laws of the search for a line's end, of line by line, and of what is kept of a line.
-use mathlib.Core.Path.{_≡_, refl, sym, ap, _∙_}
-use mathlib.Core.Bool.{Bool, true, false, cond, true≢false}
+-- Laws of line by line, and of what is kept of a line.
+use mathlib.Core.Path.{_≡_, sym, ap, _∙_}
+use mathlib.Core.Bool.{Bool, true, false, cond}
 use mathlib.Core.List.{List, [], _∷_, _++_, append-nil}
-use Prim.Native.Nat.{ℕ, zero, suc, _+_, _-_, _<_, _≤_}
+use Prim.Native.Nat.{ℕ, suc, _+_, _-_, _<_, _≤_}
 use native.Mathlib.Numerals.{add-one}
 use native.Mathlib.Omega.{arith}
 use lib.ListN.{length, take, drop, getD, set, drop-of-length-le, length-drop}
 use lib.Dec.{eqb}
 use lib.Seq.{drop-drop, take-suc-set, append-snoc, drop-cons, take-all, take-take, take-append-le, length-take-le}
 use Rattle.bridge.specs.declared.Bridge.{Bridge}
+use Rattle.hexline.specs.Search.{upTo}
 use Rattle.hexline.specs.Line.{newline, untilNewline}
 use Rattle.console.specs.Answer.{answerOf}
-use Rattle.replay.specs.Replay.{keptBytes, hasNewline, lineEnd, left, fedOf, keptOf}
-
--- ---- the search for a newline
-
--- one byte more
-pub newline-next : (s : List ℕ) (i : ℕ) (found r : Bool) → i < length s → r ≡ cond found true (eqb (getD s i 0) newline)
-    → cond r true (hasNewline (drop (i + 1) s)) ≡ cond found true (hasNewline (drop i s))
-unfolding hasNewline
-newline-next s i found r h e = rw (add-one i, drop-cons s i 0 h) (ap (λ (b : Bool). cond b true (hasNewline (drop (suc i) s))) e ∙ go found)
-  where
-    go : (f : Bool)
-        → cond (cond f true (eqb (getD s i 0) newline)) true (hasNewline (drop (suc i) s)) ≡ cond f true (cond (eqb (getD s i 0) newline) true (hasNewline (drop (suc i) s)))
-    go true = refl
-    go false = refl
-
--- and after the last
-pub newline-end : (s : List ℕ) (i : ℕ) (found : Bool) → length s ≤ i → found ≡ cond found true (hasNewline (drop i s))
-unfolding hasNewline
-newline-end s i found h = rw (drop-of-length-le s h) (go found)
-  where
-    go : (f : Bool) → f ≡ cond f true false
-    go true = refl
-    go false = refl
-
--- n bytes without a newline are all of the line that starts with them
-until-past : (n : ℕ) (s : List ℕ) → n ≤ length s → hasNewline (take n s) ≡ false → length (untilNewline s) ≡ n + length (untilNewline (drop n s))
-unfolding hasNewline untilNewline
-until-past zero s h e = omega arith
-until-past (suc n) [] h e = absurd (omega arith)
-until-past (suc n) (c ∷ s) h e = go (until-past n s (omega arith)) (eqb c newline) e
-  where
-    go : (hasNewline (take n s) ≡ false → length (untilNewline s) ≡ n + length (untilNewline (drop n s)))
-        → (b : Bool) → cond b true (hasNewline (take n s)) ≡ false → length (cond b [] (c ∷ untilNewline s)) ≡ suc n + length (untilNewline (drop n s))
-    go rest true k = absurd (true≢false k)
-    go rest false k = omega (arith, rest k)
-
-pub end-past : (n : ℕ) (s : List ℕ) (i : ℕ) → i + n ≤ length s → hasNewline (take n (drop i s)) ≡ false → lineEnd s (i + n) ≡ lineEnd s i
-end-past n s i h e =
-    let k = until-past n (drop i s) (rw (length-drop i s) (omega arith)) e in
-    omega (arith, ap (λ (x : List ℕ). length (untilNewline x)) (drop-drop n i s), k)
+use Rattle.replay.specs.Replay.{keptBytes, lineEnd, left, fedOf, keptOf}
+use Rattle.hexline.proofs.SearchLaws.{up-taken}
 
 -- ---- line by line
-
-pub until-take : (s : List ℕ) → take (length (untilNewline s)) s ≡ untilNewline s
-unfolding untilNewline
-until-take [] = refl
-until-take (c ∷ s) = go (eqb c newline) (until-take s)
-  where
-    go : (b : Bool) → take (length (untilNewline s)) s ≡ untilNewline s → take (length (cond b [] (c ∷ untilNewline s))) (c ∷ s) ≡ cond b [] (c ∷ untilNewline s)
-    go true e = refl
-    go false e = ap (λ (x : List ℕ). c ∷ x) e
 
 -- the first line of the bytes
 pub fed-line : (s line : List ℕ) (b : Bridge) → length (untilNewline s) < length s
     → fedOf b line s ≡ fedOf (answerOf b (line ++ untilNewline s) .next) [] (drop (suc (length (untilNewline s))) s)
-unfolding fedOf untilNewline
+unfolding fedOf upTo
 fed-line [] line b h = absurd (omega arith)
 fed-line (c ∷ s) line b h = go (fed-line s (line ++ (c ∷ [])) b) (eqb c newline) h
   where
@@ -81,7 +35,7 @@ fed-line (c ∷ s) line b h = go (fed-line s (line ++ (c ∷ [])) b) (eqb c newl
 
 -- and where none ends in them
 pub fed-rest : (s line : List ℕ) (b : Bridge) → length s ≤ length (untilNewline s) → fedOf b line s ≡ left b (line ++ s)
-unfolding fedOf untilNewline
+unfolding fedOf upTo
 fed-rest [] line b h = ap (left b) (sym (append-nil line))
 fed-rest (c ∷ s) line b h = go (fed-rest s (line ++ (c ∷ [])) b) (eqb c newline) h
   where
@@ -98,7 +52,7 @@ line-fed b after s start end e h a =
     let u = untilNewline (drop start s) in
     let n : end - start ≡ length u = omega arith in
     let m : start + suc (length u) ≡ end + 1 = omega arith in
-    let line : after ≡ answerOf b u .next = a ∙ ap (λ (x : List ℕ). answerOf b x .next) (rw n (until-take (drop start s))) in
+    let line : after ≡ answerOf b u .next = a ∙ ap (λ (x : List ℕ). answerOf b x .next) (rw n (up-taken newline (drop start s))) in
     let rest : drop (end + 1) s ≡ drop (suc (length u)) (drop start s) = sym (drop-drop (suc (length u)) start s ∙ ap (λ (k : ℕ). drop k s) m) in
     (λ i. fedOf (line i) [] (rest i)) ∙ sym (fed-line (drop start s) [] b (rw (length-drop start s) (omega arith)))
 

@@ -1,13 +1,14 @@
 -- Where a line ends, what lines one after the other lead to, and what is kept from read to read.
 use mathlib.Core.Path.{_≡_}
-use mathlib.Core.Bool.{Bool, true, false, cond}
+use mathlib.Core.Bool.{Bool, false, cond}
 use mathlib.Core.List.{List, [], _∷_, _++_}
 use Prim.Native.Nat.{ℕ, _+_, _≤_}
 use lib.Dec.{eqb}
-use lib.ListN.{length, take, drop}
+use lib.ListN.{length, take}
 use Rattle.bridge.specs.State.{Lawful}
 use Rattle.bridge.specs.declared.Bridge.{Bridge}
-use Rattle.hexline.specs.Line.{newline, untilNewline}
+use Rattle.hexline.specs.Search.{contains, foundAt}
+use Rattle.hexline.specs.Line.{newline}
 use Rattle.console.specs.Answer.{longestLine, answerOf}
 use Rattle.replay.specs.declared.Session.{Session}
 
@@ -20,13 +21,12 @@ abbrev pub textBytes : ℕ
 textBytes = keptBytes + 1
 
 -- whether a newline is among the bytes
-unfoldable pub hasNewline : List ℕ → Bool
-hasNewline [] = false
-hasNewline (c ∷ s) = cond (eqb c newline) true (hasNewline s)
+abbrev pub hasNewline : List ℕ → Bool
+hasNewline s = contains newline s
 
 -- where the line that starts at `from` ends: at a newline, or with the bytes
 abbrev pub lineEnd : List ℕ → ℕ → ℕ
-lineEnd bytes from = from + length (untilNewline (drop from bytes))
+lineEnd bytes from = foundAt newline bytes from
 
 -- the state after the lines that end in the bytes, and the line that is left, where `line` came before them
 pub record Fed : Type 0 where

@@ -1,24 +1,19 @@
 // The replay program: one call of the library for each line of text, and one line printed for each.
 ghost use mathlib.Core.Path.{_≡_};
-ghost use mathlib.Core.Bool.{true, cond};
 ghost use mathlib.Core.List.{[]};
 ghost use Prim.Native.Nat.{_+_, _≤_};
 ghost use lib.ListN.{length, take, drop};
 ghost use Rattle.bridge.specs.State.{Lawful};
 ghost use Rattle.bridge.specs.Setup.{noBridge};
 ghost use Rattle.words.specs.Said.{longest};
-ghost use Rattle.replay.specs.Replay.{keptBytes, textBytes, hasNewline, lineEnd, left, fedOf, keptOf, lineOf, Ready};
+ghost use Rattle.replay.specs.Replay.{keptBytes, textBytes, lineEnd, left, fedOf, keptOf, lineOf, Ready};
 use bridge::Bridge;
 use choice::Precedence;
 use frame::Mac;
+use hexline::lines::NEWLINE;
+use hexline::searching;
 use libc::STDIN_FILENO;
 use libc::STDOUT_FILENO;
-
-// What ends a line.
-const NEWLINE: u8 = b'\n';
-
-// How many bytes are searched for a newline at once.
-const BLOCK: usize = 32;
 
 // What is kept of a line: one byte more than the longest line has, so that the start of a longer one is no line either.
 const KEPT: usize = console::LONGEST_LINE + 1;
@@ -54,53 +49,11 @@ fn start() -> Bridge
     refused.next
 }
 
-// Whether either holds; without a branch, so that many bytes are tested at once.
-fn either(a: bool, b: bool) -> bool
-    ensures { λ r. ⌜ r ≡ cond a true b ⌝ }
-{
-    if a { true } else { b }
-}
-
-// Whether a newline is among the bytes.
-fn has_newline(bytes: &[u8]) -> bool
-    ensures { λ r. ⌜ r ≡ hasNewline (now (bytes .entry)) ⌝ }
-{
-    let mut found = false;
-    let mut i = 0;
-    while i < bytes.len() {
-        found = either(found, bytes[i] == NEWLINE);
-        i += 1;
-    }
-    found
-}
-
-// A place from `from` on where the same line ends: past the blocks that have no newline.
-fn past_blocks(bytes: &[u8], from: usize) -> usize
-    ensures { λ r. ⌜ lineEnd (now (bytes .entry)) r ≡ lineEnd (now (bytes .entry)) from ⌝ }
-{
-    let mut i = from;
-    while i < bytes.len() && BLOCK <= bytes.len() - i {
-        let next = i + BLOCK;
-        if has_newline(&bytes[i..next]) {
-            return i;
-        }
-        i = next;
-    }
-    i
-}
-
 // Where the line that starts at `from` ends: at a newline, or with the bytes.
 fn line_end(bytes: &[u8], from: usize) -> usize
     ensures { λ r. ⌜ r ≡ lineEnd (now (bytes .entry)) from ⌝ }
 {
-    let mut i = past_blocks(bytes, from);
-    while i < bytes.len() {
-        if bytes[i] == NEWLINE {
-            return i;
-        }
-        i += 1;
-    }
-    i
+    searching::found(bytes, from, NEWLINE)
 }
 
 // Keeps more of the line of which `len` bytes are kept, as far as there is room; how many are kept then.

@@ -1,16 +1,15 @@
 -- Laws of a line's fields, one character more for each loop.
 use mathlib.Core.Path.{_≡_, refl, sym, ap, _∙_}
-use mathlib.Core.Bool.{Bool, true, false, cond}
 use Prim.Native.Nat.{ℕ, zero, suc, _+_, _-_, _<_, _≤_}
 use mathlib.Core.List.{List, [], _∷_}
 use native.Mathlib.Numerals.{add-one}
 use native.Mathlib.Nat.{add-sub-cancel-left}
 use native.Mathlib.Omega.{arith}
-use lib.Dec.{eqb}
 use lib.ListN.{length, take, drop, getD, drop-of-length-le}
 use lib.Seq.{drop-cons}
 use borrow.Author.Tests.{eq-eqb, ne-eqb}
 use Rattle.words.specs.Text.{space, spaces, afterSpaces, upToSpace, soleOf}
+use Rattle.hexline.proofs.SearchLaws.{up-taken}
 
 -- ---- the count
 
@@ -52,38 +51,13 @@ after-nil (suc k) = refl
 pub after-end : (s : List ℕ) (i k : ℕ) → length s ≤ i → drop i s ≡ afterSpaces k (drop i s)
 after-end s i k h = rw (drop-of-length-le s h) (sym (after-nil k))
 
--- ---- the end
-
-pub up-space : (s : List ℕ) (i : ℕ) → i < length s → getD s i 0 ≡ space → upToSpace (drop i s) ≡ []
-unfolding upToSpace
-up-space s i h e = rw (drop-cons s i 0, eq-eqb (getD s i 0) space e)
-
-pub up-other : (s : List ℕ) (i : ℕ) → i < length s → (getD s i 0 ≡ space → ⊥) → upToSpace (drop i s) ≡ getD s i 0 ∷ upToSpace (drop (i + 1) s)
-unfolding upToSpace
-up-other s i h e = rw (add-one, drop-cons s i 0, ne-eqb (getD s i 0) space e)
-
-pub up-end : (s : List ℕ) (i : ℕ) → length s ≤ i → upToSpace (drop i s) ≡ []
-unfolding upToSpace
-up-end s i h = rw (drop-of-length-le s h)
-
 -- ---- the field
-
--- what stands before the first space is that many of the characters
-up-taken-by : (c : ℕ) (s : List ℕ) (b : Bool) → take (length (upToSpace s)) s ≡ upToSpace s
-    → take (length (cond b [] (c ∷ upToSpace s))) (c ∷ s) ≡ cond b [] (c ∷ upToSpace s)
-up-taken-by c s true e = refl
-up-taken-by c s false e = ap (λ (t : List ℕ). c ∷ t) e
-
-pub up-taken : (s : List ℕ) → take (length (upToSpace s)) s ≡ upToSpace s
-unfolding upToSpace
-up-taken [] = refl
-up-taken (c ∷ s) = up-taken-by c s (eqb c space) (up-taken s)
 
 pub field-taken : (s t : List ℕ) (from to : ℕ) → drop from s ≡ t → to ≡ from + length (upToSpace (drop from s)) → take (to - from) (drop from s) ≡ upToSpace t
 field-taken s t from to e h =
     ap (λ (n : ℕ). take (n - from) (drop from s)) h
     ∙ ap (λ (n : ℕ). take n (drop from s)) (add-sub-cancel-left from (length (upToSpace (drop from s))))
-    ∙ up-taken (drop from s)
+    ∙ up-taken space (drop from s)
     ∙ ap upToSpace e
 
 -- ---- the letter

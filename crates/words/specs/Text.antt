@@ -3,6 +3,7 @@ use Prim.Native.Nat.{ℕ, zero, suc}
 use mathlib.Core.Bool.{cond}
 use mathlib.Core.List.{List, [], _∷_}
 use lib.Dec.{eqb}
+use Rattle.hexline.specs.Search.{upTo}
 
 abbrev pub space : ℕ
 space = 32
@@ -23,9 +24,8 @@ afterSpaces (suc k) [] = []
 afterSpaces (suc k) (c ∷ s) = cond (eqb c space) (afterSpaces k s) (afterSpaces (suc k) s)
 
 -- what stands before the first space
-unfoldable pub upToSpace : List ℕ → List ℕ
-upToSpace [] = []
-upToSpace (c ∷ s) = cond (eqb c space) [] (c ∷ upToSpace s)
+abbrev pub upToSpace : List ℕ → List ℕ
+upToSpace s = upTo space s
 
 -- the field after k spaces
 unfoldable pub fieldOf : List ℕ → ℕ → List ℕ

@@ -3,6 +3,7 @@ ghost use mathlib.Core.Path.{_≡_};
 ghost use Prim.Native.Nat.{_+_, _≤_};
 ghost use lib.ListN.{length, drop};
 ghost use Rattle.words.specs.Text.{countOf, afterSpaces, upToSpace, fieldOf, letterOf};
+use hexline::searching;
 
 const SPACE: u8 = b' ';
 
@@ -46,14 +47,7 @@ pub fn end(text: &[u8], from: usize) -> usize
     ensures { λ r. ⌜ r ≤ length (now (text .entry)) ⌝ }
     ensures { λ r. ⌜ r ≡ from + length (upToSpace (drop from (now (text .entry)))) ⌝ }
 {
-    let mut i = from;
-    while i < text.len() {
-        if text[i] == SPACE {
-            return i;
-        }
-        i += 1;
-    }
-    i
+    searching::found(text, from, SPACE)
 }
 
 // The field after k spaces; an empty one where there are fewer.

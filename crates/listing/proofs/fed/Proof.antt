@@ -7,11 +7,12 @@ use borrow.Author.Needs.{needs}
 use borrow.Rule.Slice.PartMut.{same-len-mid}
 use lib.ListN.{length, drop, length-drop}
 use lib.Seq.{length-take-le}
-use Rattle.hexline.specs.declared.lines.Stop.{Stop}
-use Rattle.hexline.specs.Line.{lineAt}
-use Rattle.hexline.proofs.LineLaws.{stop-within, scanned-length}
 use Rattle.bridge.specs.State.{Lawful}
+use Rattle.hexline.specs.Line.{newline, lineAt}
+use Rattle.hexline.specs.declared.lines.Stop.{Stop}
 use Rattle.listing.specs.Listing.{printedBytes, heldBytes, sessionAt, fedOf}
+use Rattle.hexline.proofs.SearchLaws.{found-within}
+use Rattle.hexline.proofs.LineLaws.{scanned-length}
 use Rattle.listing.proofs.FedLaws.{fed-scan, fed-line, fed-end}
 use Rattle.listing.proofs.fed.Statement.{statement}
 use Rattle.listing.proofs.fed.Tie as tie
@@ -29,7 +30,7 @@ stopped : (c : tie.After-scan Inv-loop μ-loop)
     (l .i ≤ c .scan .result .at) × (c .scan .result .at ≤ length (c .before .before .before .before .before .before .before .before .args .bytes .now))
 stopped c =
     let l = c .before .before .before .loop in
-    omega (arith, ap (λ (s : Stop). s .at) (c .scan .ensures .0), stop-within (c .before .before .before .before .before .before .before .before .args .bytes .now) (l .i) (l .inv .5))
+    omega (arith, ap (λ (s : Stop). s .at) (c .scan .ensures .0), found-within newline (c .before .before .before .before .before .before .before .before .args .bytes .now) (l .i) (l .inv .5))
 
 -- and the bytes that it fills stay as many
 held-long : (c : tie.After-scan Inv-loop μ-loop) → length (c .scan .last .0) ≡ heldBytes

@@ -9,7 +9,7 @@ use lib.ListN.{length, take, drop, set, length-take, length-drop, length-set}
 use lib.Seq.{take-all, take-suc-set, length-take-le}
 use Rattle.hexline.specs.Line.{newline as newlineByte}
 use Rattle.replay.specs.Replay.{keptBytes, textBytes, Fed, keptOf, lineOf}
-use Rattle.hexline.proofs.LineLaws.{stop-within}
+use Rattle.hexline.proofs.SearchLaws.{found-within}
 use Rattle.replay.proofs.FedLaws.{clean-kept, read-none, read-lines}
 use Rattle.replay.proofs.fed.Statement.{statement}
 use Rattle.replay.proofs.fed.Tie as tie
@@ -18,7 +18,7 @@ use Rattle.replay.proofs.fed.Tie as tie
 ends : (c : tie.After-line-end) → c .line-end .result ≤ length (c .before .before .before .before .before .args .bytes .now)
 ends c =
     let s = c .before .before .before .before .before in
-    omega (arith, c .line-end .ensures, stop-within (s .args .bytes .now) 0 (omega arith))
+    omega (arith, c .line-end .ensures, found-within newlineByte (s .args .bytes .now) 0 (omega arith))
 
 -- and no more is kept of it than there is room for
 short : (c : tie.After-kept) → c .kept .result ≤ keptBytes

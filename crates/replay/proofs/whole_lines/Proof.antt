@@ -7,9 +7,10 @@ use borrow.Author.Needs.{needs}
 use borrow.Rule.Slice.PartMut.{same-len-mid}
 use lib.ListN.{length, drop}
 use Rattle.bridge.specs.State.{Lawful}
+use Rattle.hexline.specs.Line.{newline}
 use Rattle.words.specs.Said.{longest}
 use Rattle.replay.specs.Replay.{lineEnd, fedOf}
-use Rattle.hexline.proofs.LineLaws.{stop-within}
+use Rattle.hexline.proofs.SearchLaws.{found-within}
 use Rattle.replay.proofs.ReplayLaws.{line-fed, rest-fed}
 use Rattle.replay.proofs.whole_lines.Statement.{statement}
 use Rattle.replay.proofs.whole_lines.Tie as tie
@@ -27,7 +28,7 @@ ends : (c : tie.After-line-end2 Inv-loop μ-loop) → c .line-end2 .result ≤ l
 ends c =
     let i = c .before .before .before .before .before .before .before .before .before .before in
     let bytes = i .before .before .before .before .before .args .bytes .now in
-    omega (arith, c .line-end2 .ensures, stop-within bytes (i .before .loop .end + 1) (omega (arith, i .loop-test .taken)))
+    omega (arith, c .line-end2 .ensures, found-within newline bytes (i .before .loop .end + 1) (omega (arith, i .loop-test .taken)))
 
 line-end-requires : tie.Need-line-end-requires Inv-loop μ-loop
 line-end-requires c κs = search needs
@@ -35,7 +36,7 @@ line-end-requires c κs = search needs
 loop-holds : tie.Need-loop-holds Inv-loop μ-loop
 loop-holds c =
     let s = c .before .before .before in
-    let within = stop-within (s .args .bytes .now) (s .args .from) (s .pre .1 .1) in
+    let within = found-within newline (s .args .bytes .now) (s .args .from) (s .pre .1 .1) in
     (s .pre .0, refl, s .pre .1 .0 .1, s .pre .1 .0 .0, omega (arith, c .line-end .ensures), omega (arith, c .line-end .ensures, within), omega arith, omega arith, refl, c .line-end .ensures)
 
 room-requires : tie.Need-room-requires Inv-loop μ-loop

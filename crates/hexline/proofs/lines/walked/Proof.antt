@@ -1,15 +1,17 @@
 -- What is left to step over from here leads where the whole led.
 use mathlib.Core.Path.{_≡_, refl, ap, _∙_}
-use Prim.Native.Nat.{_-_, _+_}
-use lib.ListN.{length, drop}
-use Rattle.hexline.specs.Line.{Line, lineAt, untilNewline, scanned}
-use Rattle.hexline.proofs.LineLaws.{until-stop, until-end, scan-next, place-next, scan-end, stop-end}
+use Prim.Native.Nat.{_-_}
+use lib.ListN.{length}
+use Rattle.hexline.specs.Search.{foundAt}
+use Rattle.hexline.specs.Line.{newline, Line, lineAt, scanned}
+use Rattle.hexline.proofs.SearchLaws.{up-stop, up-end, found-next}
+use Rattle.hexline.proofs.LineLaws.{scan-next, scan-end, stop-end}
 use borrow.Author.Needs.{needs}
 use Rattle.hexline.proofs.lines.walked.Statement.{statement}
 use Rattle.hexline.proofs.lines.walked.Tie as tie
 
 abbrev Inv-loop : tie.InvT-loop
-Inv-loop held₀ seen bytes from count₀ i₀ held count i = (scanned (lineAt held count) bytes i ≡ scanned (lineAt held₀ seen) bytes from) × (i + length (untilNewline (drop i bytes)) ≡ from + length (untilNewline (drop from bytes)))
+Inv-loop held₀ seen bytes from count₀ i₀ held count i = (scanned (lineAt held count) bytes i ≡ scanned (lineAt held₀ seen) bytes from) × (foundAt newline bytes i ≡ foundAt newline bytes from)
 
 abbrev μ-loop : tie.MeasureT-loop
 μ-loop held₀ seen bytes from count₀ i₀ held count i = length bytes - i
@@ -25,7 +27,7 @@ returns c =
     let l = c .before .before .before .loop in
     let a = c .before .before .before .before .before .args in
     let s = a .bytes .now in
-    let e = until-stop s (l .i) (c .before .before .loop-test .taken) (c .if1 .taken) in
+    let e = up-stop newline s (l .i) (c .before .before .loop-test .taken) (c .if1 .taken) in
     (stop-end (lineAt (l .held) (l .count)) (lineAt (a .held .now) (a .seen)) s (l .i) (a .from) e (l .inv .0) (l .inv .1), ap (λ (x : Line). x .held) (scan-end (lineAt (l .held) (l .count)) (lineAt (a .held .now) (a .seen)) s (l .i) (a .from) e (l .inv .0)))
 
 step-requires : tie.Need-step-requires Inv-loop μ-loop
@@ -42,14 +44,14 @@ loop-again c =
     let l = c .before .before .before .before .before .loop in
     let s = c .before .before .before .before .before .before .before .args .bytes .now in
     let h = c .before .before .before .before .loop-test .taken in
-    (scan-next (lineAt (l .held) (l .count)) _ s (l .i) h (c .before .before .if1 .left) (c .step .ensures) ∙ l .inv .0, place-next s (l .i) h (c .before .before .if1 .left) ∙ l .inv .1)
+    (scan-next (lineAt (l .held) (l .count)) _ s (l .i) h (c .before .before .if1 .left) (c .step .ensures) ∙ l .inv .0, found-next newline s (l .i) h (c .before .before .if1 .left) ∙ l .inv .1)
 
 returns-2 : tie.Need-returns-2 Inv-loop μ-loop
 returns-2 c =
     let l = c .before .loop in
     let a = c .before .before .before .args in
     let s = a .bytes .now in
-    let e = until-end s (l .i) (c .loop-test .left) in
+    let e = up-end newline s (l .i) (c .loop-test .left) in
     (stop-end (lineAt (l .held) (l .count)) (lineAt (a .held .now) (a .seen)) s (l .i) (a .from) e (l .inv .0) (l .inv .1), ap (λ (x : Line). x .held) (scan-end (lineAt (l .held) (l .count)) (lineAt (a .held .now) (a .seen)) s (l .i) (a .from) e (l .inv .0)))
 
 pub walked-spec : {M : Type 1} → statement M

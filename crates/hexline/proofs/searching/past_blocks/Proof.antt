@@ -1,20 +1,20 @@
--- The line from here on ends where the whole does.
+-- The first mark from here on is the first from the start on.
 use mathlib.Core.Path.{_≡_, refl, sym, _∙_}
 use Prim.Native.Nat.{ℕ, _+_, _-_, _≤_}
 use native.Mathlib.Omega.{arith}
 use lib.ListN.{length}
-use Rattle.replay.specs.Replay.{lineEnd}
-use Rattle.replay.proofs.ReplayLaws.{end-past}
+use Rattle.hexline.specs.Search.{foundAt}
+use Rattle.hexline.proofs.SearchLaws.{found-past}
 use borrow.Author.Needs.{needs}
 use borrow.Author.Tests.{leb-true}
-use Rattle.replay.proofs.past_blocks.Statement.{statement}
-use Rattle.replay.proofs.past_blocks.Tie as tie
+use Rattle.hexline.proofs.searching.past_blocks.Statement.{statement}
+use Rattle.hexline.proofs.searching.past_blocks.Tie as tie
 
 abbrev Inv-loop : tie.InvT-loop
-Inv-loop bytes from i₀ i = lineEnd bytes i ≡ lineEnd bytes from
+Inv-loop bytes from mark i₀ i = foundAt mark bytes i ≡ foundAt mark bytes from
 
 abbrev μ-loop : tie.MeasureT-loop
-μ-loop bytes from i₀ i = length bytes - i
+μ-loop bytes from mark i₀ i = length bytes - i
 
 -- the bytes of a block
 abbrev blockBytes : ℕ
@@ -35,17 +35,17 @@ sub-if1 c = search needs
 add-next : tie.Need-add-next Inv-loop μ-loop
 add-next c = omega (arith, block c)
 
-sub-has-newline : tie.Need-sub-has-newline Inv-loop μ-loop
-sub-has-newline c = search needs
+sub-has : tie.Need-sub-has Inv-loop μ-loop
+sub-has c = search needs
 
-part-has-newline-start : tie.Need-part-has-newline-start Inv-loop μ-loop
-part-has-newline-start c = search needs
+part-has-start : tie.Need-part-has-start Inv-loop μ-loop
+part-has-start c = search needs
 
-part-has-newline-end : tie.Need-part-has-newline-end Inv-loop μ-loop
-part-has-newline-end c = omega (arith, block c)
+part-has-end : tie.Need-part-has-end Inv-loop μ-loop
+part-has-end c = omega (arith, block c)
 
-has-newline-requires : tie.Need-has-newline-requires Inv-loop μ-loop
-has-newline-requires c κs = search needs
+has-requires : tie.Need-has-requires Inv-loop μ-loop
+has-requires c κs = search needs
 
 returns : tie.Need-returns Inv-loop μ-loop
 returns c = search needs
@@ -57,9 +57,9 @@ loop-again : tie.Need-loop-again Inv-loop μ-loop
 loop-again c =
     let t = c .before .before .before in
     let l = t .before .before .loop in
-    let bytes = t .before .before .before .before .args .bytes .now in
+    let a = t .before .before .before .before .args in
     let n : l .i + blockBytes - l .i ≡ blockBytes = omega arith in
-    end-past blockBytes bytes (l .i) (block t) (sym (rw n at (c .before .has-newline .ensures)) ∙ c .if2 .left) ∙ l .inv
+    found-past (a .mark) blockBytes (a .bytes .now) (l .i) (block t) (sym (rw n at (c .before .has .ensures)) ∙ c .if2 .left) ∙ l .inv
 
 returns-2 : tie.Need-returns-2 Inv-loop μ-loop
 returns-2 c = search needs
@@ -76,10 +76,10 @@ past-blocks-spec =
     loop-holds
     sub-if1
     add-next
-    sub-has-newline
-    part-has-newline-start
-    part-has-newline-end
-    has-newline-requires
+    sub-has
+    part-has-start
+    part-has-end
+    has-requires
     returns
     loop-less
     loop-again

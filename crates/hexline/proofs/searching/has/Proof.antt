@@ -1,19 +1,19 @@
--- What is found so far and what is left make what is found of all.
+-- What is met so far and what is left make what all of the bytes have.
 use mathlib.Core.Path.{_≡_, refl, _∙_}
 use mathlib.Core.Bool.{true, cond}
 use Prim.Native.Nat.{_-_}
 use lib.ListN.{length, drop}
-use Rattle.replay.specs.Replay.{hasNewline}
-use Rattle.replay.proofs.ReplayLaws.{newline-next, newline-end}
+use Rattle.hexline.specs.Search.{contains}
+use Rattle.hexline.proofs.SearchLaws.{contains-next, contains-end}
 use borrow.Author.Needs.{needs}
-use Rattle.replay.proofs.has_newline.Statement.{statement}
-use Rattle.replay.proofs.has_newline.Tie as tie
+use Rattle.hexline.proofs.searching.has.Statement.{statement}
+use Rattle.hexline.proofs.searching.has.Tie as tie
 
 abbrev Inv-loop : tie.InvT-loop
-Inv-loop bytes found₀ i₀ found i = cond found true (hasNewline (drop i bytes)) ≡ hasNewline bytes
+Inv-loop bytes mark met₀ i₀ met i = cond met true (contains mark (drop i bytes)) ≡ contains mark bytes
 
 abbrev μ-loop : tie.MeasureT-loop
-μ-loop bytes found₀ i₀ found i = length bytes - i
+μ-loop bytes mark met₀ i₀ met i = length bytes - i
 
 loop-holds : tie.Need-loop-holds Inv-loop μ-loop
 loop-holds c = refl
@@ -33,16 +33,17 @@ loop-less c = search needs
 loop-again : tie.Need-loop-again Inv-loop μ-loop
 loop-again c =
     let l = c .before .before .before .loop in
-    let bytes = c .before .before .before .before .before .args .bytes .now in
-    newline-next bytes (l .i) (l .found) (c .either .result) (c .before .before .loop-test .taken) (c .either .ensures) ∙ l .inv
+    let a = c .before .before .before .before .before .args in
+    contains-next (a .mark) (a .bytes .now) (l .i) (l .met) (c .either .result) (c .before .before .loop-test .taken) (c .either .ensures) ∙ l .inv
 
 returns : tie.Need-returns Inv-loop μ-loop
 returns c =
     let l = c .before .loop in
-    newline-end (c .before .before .before .args .bytes .now) (l .i) (l .found) (c .loop-test .left) ∙ l .inv
+    let a = c .before .before .before .args in
+    contains-end (a .mark) (a .bytes .now) (l .i) (l .met) (c .loop-test .left) ∙ l .inv
 
-pub has-newline-spec : {M : Type 1} → statement M
-has-newline-spec =
+pub has-spec : {M : Type 1} → statement M
+has-spec =
     tie.close
     (tie.spec
     Inv-loop

@@ -1,19 +1,19 @@
--- The end of what is left from here is the end of the line.
+-- The first mark of what is left from here is the first from the start on.
 use mathlib.Core.Path.{_≡_, ap, _∙_}
 use Prim.Native.Nat.{_-_}
 use native.Mathlib.Omega.{arith}
 use lib.ListN.{length}
-use Rattle.replay.specs.Replay.{lineEnd}
-use Rattle.hexline.proofs.LineLaws.{until-stop, until-end, place-next}
+use Rattle.hexline.specs.Search.{foundAt}
+use Rattle.hexline.proofs.SearchLaws.{up-stop, up-end, found-next}
 use borrow.Author.Needs.{needs}
-use Rattle.replay.proofs.line_end.Statement.{statement}
-use Rattle.replay.proofs.line_end.Tie as tie
+use Rattle.hexline.proofs.searching.found.Statement.{statement}
+use Rattle.hexline.proofs.searching.found.Tie as tie
 
 abbrev Inv-loop : tie.InvT-loop
-Inv-loop bytes from i₀ i = lineEnd bytes i ≡ lineEnd bytes from
+Inv-loop bytes from mark i₀ i = foundAt mark bytes i ≡ foundAt mark bytes from
 
 abbrev μ-loop : tie.MeasureT-loop
-μ-loop bytes from i₀ i = length bytes - i
+μ-loop bytes from mark i₀ i = length bytes - i
 
 past-blocks-requires : tie.Need-past-blocks-requires Inv-loop μ-loop
 past-blocks-requires c κs = search needs
@@ -27,8 +27,8 @@ shared-slice-read-if1 c = search needs
 returns : tie.Need-returns Inv-loop μ-loop
 returns c =
     let l = c .before .before .before .loop in
-    let bytes = c .before .before .before .before .before .before .args .bytes .now in
-    omega (arith, ap length (until-stop bytes (l .i) (c .before .before .loop-test .taken) (c .if1 .taken)), l .inv)
+    let a = c .before .before .before .before .before .before .args in
+    omega (arith, ap length (up-stop (a .mark) (a .bytes .now) (l .i) (c .before .before .loop-test .taken) (c .if1 .taken)), l .inv)
 
 add-i : tie.Need-add-i Inv-loop μ-loop
 add-i c = search needs
@@ -39,17 +39,17 @@ loop-less c = search needs
 loop-again : tie.Need-loop-again Inv-loop μ-loop
 loop-again c =
     let l = c .before .before .before .loop in
-    let bytes = c .before .before .before .before .before .before .args .bytes .now in
-    place-next bytes (l .i) (c .before .before .loop-test .taken) (c .if1 .left) ∙ l .inv
+    let a = c .before .before .before .before .before .before .args in
+    found-next (a .mark) (a .bytes .now) (l .i) (c .before .before .loop-test .taken) (c .if1 .left) ∙ l .inv
 
 returns-2 : tie.Need-returns-2 Inv-loop μ-loop
 returns-2 c =
     let l = c .before .loop in
-    let bytes = c .before .before .before .before .args .bytes .now in
-    omega (arith, ap length (until-end bytes (l .i) (c .loop-test .left)), l .inv)
+    let a = c .before .before .before .before .args in
+    omega (arith, ap length (up-end (a .mark) (a .bytes .now) (l .i) (c .loop-test .left)), l .inv)
 
-pub line-end-spec : {M : Type 1} → statement M
-line-end-spec =
+pub found-spec : {M : Type 1} → statement M
+found-spec =
     tie.close
     (tie.spec
     Inv-loop
