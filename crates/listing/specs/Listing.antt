@@ -55,10 +55,11 @@ toldBy (Clock precedence hop port) b answer = record { next = b; answer = answer
 unfoldable pub toldOf : Bridge → ℕ → Listed
 toldOf b answer = toldBy (chosenOf b) b answer
 
--- a line's bytes: port, six of arrival, and the frame
+-- a call's answer, with the clock that is chosen after it
 abbrev pub doneOf : Done → Listed
 doneOf done = toldOf (done .next) (done .answer)
 
+-- a line's 71 bytes are the port, six of arrival, and the frame; a text that isn't 142 digits is no line
 unfoldable pub listedOf : Bridge → List ℕ → ℕ → Listed
 listedOf b held seen = cond (eqb seen lineDigits) (doneOf (receiveOf b (getD held 0 0) (drop 7 held) (numberAt held 1 6))) (toldOf b badLine)
 
