@@ -5,8 +5,8 @@ use Prim.Native.Nat.{ℕ}
 use borrow.Author.Tests.{eq-eqb, ne-eqb}
 use lib.ListN.{getD, drop}
 use Rattle.numbers.specs.Digits.{numberAt}
-use Rattle.choice.specs.declared.Choice.{Choice}
-use Rattle.choice.specs.declared.Choice.the-variants.{Nothing, Clock}
+use Rattle.choice.specs.declared.Candidate.{Candidate}
+use Rattle.choice.specs.declared.Candidate.the-variants.{Nothing, Clock}
 use Rattle.bridge.specs.State.{Lawful}
 use Rattle.bridge.specs.Chosen.{chosenOf}
 use Rattle.bridge.specs.Receive.{receiveOf}
@@ -17,15 +17,15 @@ use Rattle.listing.specs.Listing.{badLine, toldBy, toldOf, doneOf, liste
 use Rattle.listing.specs.declared.Listed.{Listed}
 use Rattle.numbers.proofs.Branches.{if-true, if-false}
 
-pub told-by : (b : Bridge) (answer : ℕ) {x : Choice} → x ≡ chosenOf b → toldBy x b answer ≡ toldOf b answer
+pub told-by : (b : Bridge) (answer : ℕ) {x : Candidate} → x ≡ chosenOf b → toldBy x b answer ≡ toldOf b answer
 unfolding toldOf
-told-by b answer e = ap (λ (x : Choice). toldBy x b answer) e
+told-by b answer e = ap (λ (x : Candidate). toldBy x b answer) e
 
 told-next : (b : Bridge) (answer : ℕ) → toldOf b answer .next ≡ b
 unfolding toldOf
 told-next b answer = by (chosenOf b)
   where
-    by : (x : Choice) → toldBy x b answer .next ≡ b
+    by : (x : Candidate) → toldBy x b answer .next ≡ b
     by Nothing = refl
     by (Clock p h n) = refl
 

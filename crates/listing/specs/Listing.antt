@@ -6,8 +6,8 @@ use Prim.Native.Nat.{ℕ}
 use lib.Dec.{eqb}
 use lib.ListN.{length, getD, drop, replicate}
 use Rattle.numbers.specs.Digits.{numberAt}
-use Rattle.choice.specs.declared.Choice.{Choice}
-use Rattle.choice.specs.declared.Choice.the-variants.{Nothing, Clock}
+use Rattle.choice.specs.declared.Candidate.{Candidate}
+use Rattle.choice.specs.declared.Candidate.the-variants.{Nothing, Clock}
 use Rattle.table.specs.Table.{mostPorts}
 use Rattle.table.specs.Fits.{measuredSetting}
 use Rattle.bridge.specs.State.{Lawful}
@@ -48,7 +48,7 @@ abbrev pub nothing : ℕ
 nothing = 255
 
 -- an answer with the chosen clock's port and held hop
-abbrev pub toldBy : Choice → Bridge → ℕ → Listed
+abbrev pub toldBy : Candidate → Bridge → ℕ → Listed
 toldBy Nothing b answer = record { next = b; answer = answer; port = nothing; hop = nothing }
 toldBy (Clock precedence hop port) b answer = record { next = b; answer = answer; port = port; hop = hop }
 

@@ -5,7 +5,7 @@ ghost use lib.ListN.{length};
 ghost use Rattle.bridge.specs.State.{Lawful};
 ghost use Rattle.listing.specs.Listing.{printedBytes, heldBytes, startOf, toldOf, listedOf, fedOf, Ready};
 use bridge::Bridge;
-use choice::Choice;
+use choice::Candidate;
 use choice::Precedence;
 use frame::Mac;
 use hexline::lines;
@@ -71,7 +71,7 @@ fn start() -> Bridge
         false,
         bridge::DEFAULT_TIMEOUT,
         bridge::DEFAULT_BACK,
-        table::records::measured(),
+        table::records::measured_settings(),
     );
     let down = first.next;
     let linked = bridge::links(down, BOTH_LINKED);
@@ -84,13 +84,13 @@ fn told(b: Bridge, answer: u8) -> Listed
     ensures { λ r. ⌜ r ≡ toldOf b answer ⌝ }
 {
     match bridge::chosen(b) {
-        Choice::Nothing => Listed {
+        Candidate::Nothing => Listed {
             next: b,
             answer: answer,
             port: NOTHING,
             hop: NOTHING,
         },
-        Choice::Clock(_, hop, port) => Listed {
+        Candidate::Clock(_, hop, port) => Listed {
             next: b,
             answer: answer,
             port: port,
