@@ -118,6 +118,10 @@ pub minus-is : (a b : ℕ) → pos a -ℤ pos b ≡ subℕ a b
 minus-is a zero = of-pos (a + 0) ∙ same (a + 0) 0 a 0 (omega arith)
 minus-is a (suc b) = refl
 
+-- what is to be added to a to give b
+pub minus-pos : (a b n : ℕ) → a + n ≡ b → pos n ≡ pos b -ℤ pos a
+minus-pos a b n e = of-pos n ∙ same n 0 b a (omega arith) ∙ sym (minus-is b a)
+
 pub sub-lt : (a b m : ℕ) → a < b + m → b < a + m → natAbs (subℕ a b) < m
 sub-lt = diff-ind (λ a b. (m : ℕ) → a < b + m → b < a + m → natAbs (subℕ a b) < m)
     (λ n b m h k. rw (sub-pos n b) (omega arith))

@@ -1,4 +1,4 @@
--- Step 4, which samples are kept.
+-- Step 4, which samples are kept, and the two of them that a line is read off.
 use mathlib.Core.Bool.{Bool, true, false}
 use Prim.Native.Nat.{ℕ}
 use lib.IntN.{ℤ, pos, _-ℤ_}
@@ -7,6 +7,8 @@ use Rattle.samples.specs.Rate.{Limits, gainOf}
 use Rattle.samples.specs.declared.Sample.{Sample}
 use Rattle.samples.specs.declared.Samples.{Samples}
 use Rattle.samples.specs.declared.Samples.the-variants.{Empty, One, Two}
+use Rattle.samples.specs.declared.Ends.{Ends}
+use Rattle.samples.specs.declared.Ends.the-variants.{Few, Both}
 use Rattle.samples.specs.declared.Gain.{Gain}
 use Rattle.samples.specs.declared.Gain.the-variants.{Within, Outside}
 
@@ -36,8 +38,20 @@ keptOf Empty true new = One new
 keptOf (One a) true new = keptBy (gainBetween a new) a new
 keptOf (Two z a) true new = keptBy (gainBetween a new) a new
 
--- samples that step 4 keeps: grand times in range, and two only within the limits
+-- too few samples to read a line off, or the oldest and the newest that are kept
+unfoldable pub endsOf : Samples → Ends
+endsOf Empty = Few
+endsOf (One a) = Few
+endsOf (Two a b) = Both a b
+
+-- two samples that a line is read off: grand times in range, and the limits hold between them
+pub record LawfulEnds (a b : Sample) : Type 0 where
+  pub oldest : InRange (a .grand)
+  pub newest : InRange (b .grand)
+  pub limits : Limits (gainedOf a b) (spreadOf a b)
+
+-- samples that step 4 keeps
 abbrev pub LawfulSamples : Samples → Type 0
 LawfulSamples Empty = Unit {0}
 LawfulSamples (One a) = InRange (a .grand)
-LawfulSamples (Two a b) = InRange (a .grand) × InRange (b .grand) × Limits (gainedOf a b) (spreadOf a b)
+LawfulSamples (Two a b) = LawfulEnds a b

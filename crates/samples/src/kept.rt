@@ -1,7 +1,8 @@
-// Step 4: which samples are kept.
+// Step 4: which samples are kept, and the two of them that a line is read off.
 ghost use mathlib.Core.Path.{_≡_};
 ghost use Rattle.times.specs.Times.{InRange};
-ghost use Rattle.samples.specs.Keep.{gainBetween, keptBy, keptOf, LawfulSamples};
+ghost use Rattle.samples.specs.Keep.{gainBetween, keptBy, keptOf, endsOf, LawfulSamples};
+use crate::Ends;
 use crate::Gain;
 use crate::Sample;
 use crate::Samples;
@@ -47,5 +48,16 @@ pub fn keep(old: Samples, same: bool, new: Sample) -> Samples
         }
     } else {
         Samples::One(new)
+    }
+}
+
+// The oldest and the newest sample that are kept.
+pub fn ends(samples: Samples) -> Ends
+    ensures { λ r. ⌜ r ≡ endsOf samples ⌝ }
+{
+    match samples {
+        Samples::Empty => Ends::Few,
+        Samples::One(_) => Ends::Few,
+        Samples::Two(oldest, newest) => Ends::Both(oldest, newest),
     }
 }
