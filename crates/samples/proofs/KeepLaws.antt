@@ -10,7 +10,7 @@ use Rattle.samples.specs.Keep.{spreadOf, riseOf, gainBetween, keptBy, ke
 use Rattle.samples.specs.declared.Sample.{Sample}
 use Rattle.samples.specs.declared.Samples.{Samples}
 use Rattle.samples.specs.declared.Samples.the-variants.{Empty, One, Two}
-use Rattle.samples.specs.declared.Ends.the-variants.{Few, Both}
+use Rattle.samples.specs.declared.Ends.the-variants.{Both}
 use Rattle.samples.specs.declared.Gain.{Gain}
 use Rattle.samples.specs.declared.Gain.the-variants.{Within, Outside}
 use Rattle.numbers.proofs.Ring.{minus-is, neg-pos, sub-+, sub-ge, sub-ge2}
@@ -58,18 +58,6 @@ kept-lawful (One a) true new h k = kept-by-lawful (gainBetween a new) a new refl
 kept-lawful (Two z a) true new h k = kept-by-lawful (gainBetween a new) a new refl (h .newest) k
 
 -- ---- the oldest and the newest
-
-pub ends-empty : Few ≡ endsOf Empty
-unfolding endsOf
-ends-empty = refl
-
-pub ends-one : (a : Sample) → Few ≡ endsOf (One a)
-unfolding endsOf
-ends-one a = refl
-
-pub ends-two : (a b : Sample) → Both a b ≡ endsOf (Two a b)
-unfolding endsOf
-ends-two a b = refl
 
 pub ends-lawful : (samples : Samples) (a b : Sample) → LawfulSamples samples → endsOf samples ≡ Both a b → LawfulEnds a b
 unfolding endsOf
