@@ -5,8 +5,8 @@ use Prim.Native.Nat.{ℕ, _+_, _<_, _≤_}
 use native.Mathlib.Omega.{arith}
 use lib.IntN.{pos, natAbs, subℕ, _-ℤ_}
 use Rattle.times.specs.Times.{second, InRange}
-use Rattle.samples.specs.Rate.{Limits}
-use Rattle.samples.specs.Keep.{spreadOf, riseOf, gainBetween, keptBy, keptOf, endsOf, LawfulEnds, LawfulSamples}
+use Rattle.samples.specs.Rate.{Limits, steepest}
+use Rattle.samples.specs.Keep.{spreadOf, riseOf, gainedOf, gainBetween, rateBetween, keptBy, keptOf, endsOf, LawfulEnds, LawfulSamples}
 use Rattle.samples.specs.declared.Sample.{Sample}
 use Rattle.samples.specs.declared.Samples.{Samples}
 use Rattle.samples.specs.declared.Samples.the-variants.{Empty, One, Two}
@@ -14,7 +14,7 @@ use Rattle.samples.specs.declared.Ends.the-variants.{Both}
 use Rattle.samples.specs.declared.Gain.{Gain}
 use Rattle.samples.specs.declared.Gain.the-variants.{Within, Outside}
 use Rattle.numbers.proofs.Ring.{minus-is, neg-pos, sub-+, sub-ge, sub-ge2}
-use Rattle.samples.proofs.RateLaws.{within-gain}
+use Rattle.samples.proofs.RateLaws.{within-gain, rate-small}
 
 -- where the limits hold, grand time rose, and by less than a second
 pub limits-rise : (a b s : ℕ) → Limits (pos b -ℤ pos a -ℤ pos s) s → (a ≤ b) × (b < a + second)
@@ -58,6 +58,9 @@ kept-lawful (One a) true new h k = kept-by-lawful (gainBetween a new) a new refl
 kept-lawful (Two z a) true new h k = kept-by-lawful (gainBetween a new) a new refl (h .newest) k
 
 -- ---- the oldest and the newest
+
+pub between-small : (a b : Sample) → LawfulEnds a b → natAbs (rateBetween a b) ≤ steepest
+between-small a b w = rate-small (gainedOf a b) (spreadOf a b) (w .limits)
 
 pub ends-lawful : (samples : Samples) (a b : Sample) → LawfulSamples samples → endsOf samples ≡ Both a b → LawfulEnds a b
 unfolding endsOf

@@ -3,7 +3,7 @@ use mathlib.Core.Bool.{Bool, true, false}
 use Prim.Native.Nat.{ℕ}
 use lib.IntN.{ℤ, pos, _-ℤ_}
 use Rattle.times.specs.Times.{sinceOf, units, InRange}
-use Rattle.samples.specs.Rate.{Limits, gainOf}
+use Rattle.samples.specs.Rate.{Limits, gainOf, rateOf}
 use Rattle.samples.specs.declared.Sample.{Sample}
 use Rattle.samples.specs.declared.Samples.{Samples}
 use Rattle.samples.specs.declared.Samples.the-variants.{Empty, One, Two}
@@ -25,6 +25,10 @@ gainedOf a b = riseOf a b -ℤ pos (spreadOf a b)
 -- the gain between two samples, where the limits hold
 abbrev pub gainBetween : Sample → Sample → Gain
 gainBetween a b = gainOf (riseOf a b) (spreadOf a b)
+
+-- the rate of a clock from one sample to a later one
+abbrev pub rateBetween : Sample → Sample → ℤ
+rateBetween a b = rateOf (gainedOf a b) (spreadOf a b)
 
 -- the newest sample stays beside the new one exactly where the limits hold between them
 abbrev pub keptBy : Gain → Sample → Sample → Samples

@@ -1,7 +1,7 @@
 // Step 4: which samples are kept, and the two of them that a line is read off.
 ghost use mathlib.Core.Path.{_≡_};
 ghost use Rattle.times.specs.Times.{InRange};
-ghost use Rattle.samples.specs.Keep.{gainBetween, keptBy, keptOf, endsOf, LawfulSamples};
+ghost use Rattle.samples.specs.Keep.{gainBetween, rateBetween, keptBy, keptOf, endsOf, LawfulEnds, LawfulSamples};
 use crate::Ends;
 use crate::Gain;
 use crate::Sample;
@@ -21,6 +21,17 @@ pub fn gain_between(a: Sample, b: Sample) -> Gain
     match grand::risen(a.grand, b.grand) {
         Rise::By(n) => rate::gained(n, s),
         Rise::Far => Gain::Outside,
+    }
+}
+
+// The rate of a clock from its oldest kept sample to its newest.
+pub fn rate_between(oldest: Sample, newest: Sample) -> i64
+    requires { ⌜ LawfulEnds oldest newest ⌝ }
+    ensures { λ r. ⌜ r ≡ rateBetween oldest newest ⌝ }
+{
+    match gain_between(oldest, newest) {
+        Gain::Within(d) => rate::rate(d, local::since(newest.local, oldest.local)),
+        Gain::Outside => 0,
     }
 }
 
