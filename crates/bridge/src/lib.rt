@@ -19,13 +19,13 @@ use frame::Fields;
 use frame::Mac;
 use frame::Reading;
 use frame::read;
+use line::Drift;
+use line::ppm;
 use port::OwnClock;
 use port::Port;
 use port::Sending;
 use port::Setting;
 use port::record;
-use relay::Drift;
-use relay::drifting;
 use table::arguments;
 use table::records;
 use times::GrandTime;
@@ -317,5 +317,5 @@ pub fn drift(b: Bridge, port: u8) -> Drift
     }
     let clock = b.clock;
     let ports = b.ports;
-    drifting::drift(records::samples_at(port, clock, ports))
+    ppm::drift(records::samples_at(port, clock, ports))
 }
