@@ -1,16 +1,16 @@
 -- Demand 3's bound, once for every reading: it lies less than `bound` units from the exact line, which passes through both samples.
-use mathlib.Core.Path.{_≡_, ap, _∙_}
+use mathlib.Core.Path.{_≡_, sym, ap, _∙_}
 use Prim.Native.Nat.{ℕ, _+_, _*_, _<_, _≤_}
 use native.Mathlib.Nat.{mul-le-mul-left, mul-le-mul-right}
 use native.Mathlib.Omega.{arith}
-use lib.IntN.{ℤ, pos, negℤ, natAbs, _+ℤ_, _-ℤ_, _*ℤ_, *ℤ-zero, +ℤ-idr}
-use Rattle.times.specs.Times.{units}
-use Rattle.samples.specs.Rate.{parts, rateOf, scaledOf}
+use lib.IntN.{ℤ, pos, negℤ, natAbs, _+ℤ_, _-ℤ_, _*ℤ_, *ℤ-zero, +ℤ-idr, +ℤ-assoc, +ℤ-comm}
+use Rattle.times.specs.Times.{second, units}
+use Rattle.samples.specs.Rate.{parts, steepest, rateOf, scaledOf, advanceOf}
 use Rattle.samples.specs.Keep.{spreadOf, riseOf, gainedOf, rateBetween, LawfulEnds}
 use Rattle.samples.specs.declared.Sample.{Sample}
-use Rattle.line.specs.Line.{longestReach, readingAt, bound, lineAt}
+use Rattle.line.specs.Line.{longestReach, InReach, readingAt, bound, lineAt}
 use Rattle.numbers.proofs.Ring.{same, split, of-pos, neg-pos, sub-+, sub-*, sub-neg-is, natAbs-*, natAbs-+}
-use Rattle.samples.proofs.RateLaws.{rate-near, scaled-near}
+use Rattle.samples.proofs.RateLaws.{rate-near, scaled-near, scaled-small}
 
 -- ---- both roundings together: S times what a rate makes of x differs from d × x by less than `bound` times S
 
@@ -62,3 +62,12 @@ older-ring s g h = rw (split s, split g, split h) (simp (sub-+, sub-*, sub-neg-i
 
 pub line-older : (a b : Sample) → lineAt a b (negℤ (pos (spreadOf a b))) ≡ pos (spreadOf a b) *ℤ pos (units (a .grand))
 line-older a b = older-ring (pos (spreadOf a b)) (pos (units (b .grand))) (pos (units (a .grand)))
+
+-- ---- a reading is moved from the newest sample by less than a second
+
+pub step-small : (rate x : ℤ) (more : ℕ) → natAbs rate ≤ steepest → InReach x more → natAbs (advanceOf rate x +ℤ pos more) < second
+step-small rate x more hr w =
+    rw (ring x (scaledOf rate x) (pos more)) (omega (arith, w .reached, natAbs-+ (x +ℤ pos more) (scaledOf rate x), scaled-small rate x hr (w .read)))
+  where
+    ring : (x q m : ℤ) → x +ℤ q +ℤ m ≡ x +ℤ m +ℤ q
+    ring x q m = +ℤ-assoc x q m ∙ ap (λ (y : ℤ). x +ℤ y) (+ℤ-comm q m) ∙ sym (+ℤ-assoc x m q)

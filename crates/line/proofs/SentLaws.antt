@@ -6,26 +6,26 @@ use native.Mathlib.Nat.{le-of-lt}
 use native.Mathlib.Omega.{arith}
 use borrow.Author.Tests.{lt-ltb, le-ltb, ltb-true}
 use lib.Dec.{ltb}
-use lib.IntN.{ℤ, pos, negsuc, natAbs, _+ℤ_, _-ℤ_, _*ℤ_}
+use lib.IntN.{ℤ, pos, negsuc, natAbs, _+ℤ_, _-ℤ_, _*ℤ_, -ℤ-+ℤ-cancel}
 use Rattle.numbers.specs.Whole.{atLeastZero}
-use Rattle.times.specs.Times.{second, sinceOf, units, InRange, momentOf}
+use Rattle.times.specs.Times.{grandEnd, sinceOf, units, InRange, momentOf}
 use Rattle.times.specs.declared.LocalTime.{LocalTime}
 use Rattle.times.specs.declared.GrandTime.{GrandTime}
 use Rattle.times.specs.declared.ErrorTime.{ErrorTime}
 use Rattle.times.specs.declared.Moment.{Moment}
 use Rattle.times.specs.declared.Moment.the-variants as Moments
-use Rattle.samples.specs.Rate.{scaledOf, advanceOf}
+use Rattle.samples.specs.Rate.{scaledOf}
 use Rattle.samples.specs.Keep.{spreadOf, rateBetween, endsOf, LawfulEnds, LawfulSamples}
 use Rattle.samples.specs.declared.Sample.{Sample}
 use Rattle.samples.specs.declared.Samples.{Samples}
 use Rattle.samples.specs.declared.Ends.{Ends}
 use Rattle.samples.specs.declared.Ends.the-variants.{Few as TooFew, Both}
-use Rattle.line.specs.Line.{longestReach, readingAt, lineAt, NearLine}
+use Rattle.line.specs.Line.{InReach, readingAt, lineAt, NearLine}
 use Rattle.line.specs.Sent.{longestElapsed, reachOf, sentTime, sentAs, sentBy, sentOf}
-use Rattle.line.specs.declared.Sent.the-variants.{At, Few, Late, Beyond}
+use Rattle.line.specs.declared.Sent.the-variants.{At, Late, Beyond}
 use Rattle.numbers.proofs.Branches.{if-true, if-false}
-use Rattle.numbers.proofs.Ring.{same, split, of-pos, neg-pos, minus-is, sub-lt, sub-ge, sub-+, sub-*, sub-neg-is, natAbs-+}
-use Rattle.times.proofs.TimeLaws.{at-moment}
+use Rattle.numbers.proofs.Ring.{same, split, of-pos, neg-pos, minus-is, sub-lt, sub-ge, sub-+, sub-*, sub-neg-is}
+use Rattle.times.proofs.TimeLaws.{at-moment, beyond-moment}
 use Rattle.samples.proofs.RateLaws.{scaled-small}
 use Rattle.samples.proofs.KeepLaws.{between-small, ends-lawful}
 use Rattle.line.proofs.Bound.{reading-near}
@@ -40,36 +40,20 @@ module _ (a b : Sample) (elapsed back : ℕ) where
       ring : (g e b q : ℤ) → g +ℤ (e -ℤ b +ℤ q) +ℤ b ≡ g +ℤ e +ℤ q
       ring g e b q = rw (split g, split e, split b, split q) (simp (sub-+, sub-neg-is) (omega (arith, same)))
 
-  -- by how much the newest grand time is moved
-  pub sent-step : pos (units (b .grand)) +ℤ (advanceOf (rateBetween a b) (reachOf elapsed back) +ℤ pos back) ≡ sentTime a b elapsed back
-  unfolding sentTime readingAt
-  sent-step = ring (pos (units (b .grand))) (advanceOf (rateBetween a b) (reachOf elapsed back)) (pos back)
-    where
-      ring : (g x b : ℤ) → g +ℤ (x +ℤ b) ≡ g +ℤ x +ℤ b
-      ring g x b = rw (split g, split x, split b) (simp sub-+ (omega (arith, same)))
-
   module _ (he : elapsed < longestElapsed) (hb : back < longestElapsed) where
-    pub reach-le : natAbs (reachOf elapsed back) ≤ longestReach
-    reach-le = le-of-lt (rw (minus-is elapsed back) (sub-lt elapsed back longestElapsed (omega arith) (omega arith)))
-
-    pub step-small : LawfulEnds a b → natAbs (advanceOf (rateBetween a b) (reachOf elapsed back) +ℤ pos back) < second
-    step-small w =
-        rw (ring (pos elapsed) (pos back) (scaledOf (rateBetween a b) (reachOf elapsed back)))
-        (omega (
-          arith,
-          natAbs-+ (pos elapsed) (scaledOf (rateBetween a b) (reachOf elapsed back)),
-          scaled-small (rateBetween a b) (reachOf elapsed back) (between-small a b w) reach-le,
-        ))
-      where
-        ring : (e b q : ℤ) → e -ℤ b +ℤ q +ℤ b ≡ e +ℤ q
-        ring e b q = rw (split e, split b, split q) (simp (sub-+, sub-neg-is) (omega (arith, same)))
+    pub in-reach : InReach (reachOf elapsed back) back
+    in-reach = record {
+      read = rw (minus-is elapsed back) (le-of-lt (sub-lt elapsed back longestElapsed (omega arith) (omega arith)));
+      added = omega arith;
+      reached = rw (-ℤ-+ℤ-cancel (pos elapsed) (pos back)) (omega arith);
+    }
 
     -- demand 3 for the definitions
     pub time-near : LawfulEnds a b → NearLine a b (sentTime a b elapsed back) (reachOf elapsed back) back
     unfolding sentTime
     time-near w =
         rw (ring (spreadOf a b) (readingAt a b (reachOf elapsed back)) (pos back) (lineAt a b (reachOf elapsed back)))
-        (reading-near a b (reachOf elapsed back) w reach-le)
+        (reading-near a b (reachOf elapsed back) w (in-reach .read))
       where
         ring : (s : ℕ) (z b l : ℤ) → pos s *ℤ (z +ℤ b) -ℤ (l +ℤ pos s *ℤ b) ≡ pos s *ℤ z -ℤ l
         ring s z b l = rw (of-pos s, split z, split b, split l) (simp (sub-+, sub-*, sub-neg-is) (omega (arith, same)))
@@ -81,7 +65,7 @@ module _ (a b : Sample) (elapsed back : ℕ) where
           arith,
           w .limits .low,
           w .limits .near,
-          scaled-small (rateBetween a b) (reachOf elapsed back) (between-small a b w) reach-le,
+          scaled-small (rateBetween a b) (reachOf elapsed back) (between-small a b w) (in-reach .read),
           spread-le (units (b .grand)) (units (a .grand)) (spreadOf a b),
         )
       where
@@ -151,3 +135,19 @@ module _ (samples : Samples) (t : LocalTime) (back : ℕ) (g : GrandTime) (e : E
   sent-near d w hb =
       subst (λ (z : ℤ). NearLine (d .oldest) (d .newest) z (reachOf (sinceOf t (d .newest .local)) back) back) (sym (d .time))
       (time-near (d .oldest) (d .newest) (sinceOf t (d .newest .local)) back (d .soon) hb (ends-lawful samples (d .oldest) (d .newest) w (d .kept)))
+
+-- 13 is answered only where the sent time reaches the end of grand time: the part below zero never occurs
+pub sent-beyond : (samples : Samples) (t : LocalTime) (back : ℕ) (a b : Sample) → LawfulSamples samples → back < longestElapsed
+    → endsOf samples ≡ Both a b → sentOf samples t back ≡ Beyond → grandEnd ≤ atLeastZero (sentTime a b (sinceOf t (b .local)) back)
+unfolding sentOf
+sent-beyond samples t back a b w hb k q = soon (ltb (sinceOf t (b .local)) longestElapsed) refl (ap (λ (x : Ends). sentBy x t back) (sym k) ∙ q)
+  where
+    none : (m : Moment) → sentAs m (b .error) ≡ Beyond → m ≡ Moments.Beyond
+    none (Moments.At g) f = let z : _≡_ {A = ℕ} 0 1 = cc in absurd (omega arith)
+    none Moments.Beyond f = refl
+
+    soon : (r : Bool) → ltb (sinceOf t (b .local)) longestElapsed ≡ r
+        → cond r (sentAs (momentOf (sentTime a b (sinceOf t (b .local)) back)) (b .error)) Late ≡ Beyond
+        → grandEnd ≤ atLeastZero (sentTime a b (sinceOf t (b .local)) back)
+    soon true l f = beyond-moment _ (ap momentOf (sent-units a b (sinceOf t (b .local)) back (ltb-true _ _ l) hb (ends-lawful samples a b w k)) ∙ none _ f)
+    soon false l f = let z : _≡_ {A = ℕ} 0 1 = cc in absurd (omega arith)

@@ -1,5 +1,5 @@
 -- The line through the oldest and the newest kept sample: as it is read, and the exact one that demand 3 speaks of.
-use Prim.Native.Nat.{ℕ, _*_, _^_, _<_}
+use Prim.Native.Nat.{ℕ, _*_, _^_, _<_, _≤_}
 use lib.IntN.{ℤ, pos, natAbs, _+ℤ_, _-ℤ_, _*ℤ_}
 use Rattle.times.specs.Times.{units}
 use Rattle.samples.specs.Rate.{advanceOf}
@@ -9,6 +9,12 @@ use Rattle.samples.specs.declared.Sample.{Sample}
 -- the line is read at most this far from the newest sample, before or after it
 abbrev pub longestReach : ℕ
 longestReach = 2 ^ 39
+
+-- a distance x from the newest sample at which it is read, and what is added to the reading: each is within that, and where both lead
+pub record InReach (x : ℤ) (more : ℕ) : Type 0 where
+  pub read : natAbs x ≤ longestReach
+  pub added : more ≤ longestReach
+  pub reached : natAbs (x +ℤ pos more) ≤ longestReach
 
 -- the grand time that is read x units of local time after the newest sample: g1 + x + floor(rate × x / 2^35)
 unfoldable pub readingAt : Sample → Sample → ℤ → ℤ

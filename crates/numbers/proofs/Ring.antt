@@ -4,10 +4,9 @@ use Prim.Native.Nat.{ℕ, zero, suc, _+_, _-_, _*_, _<_, _≤_}
 use native.Mathlib.Nat.{sub-add-cancel, lt-of-not-le}
 use native.Mathlib.Decide.{decLe}
 use native.Mathlib.Omega.{arith}
-use lib.Dec.{T}
 use borrow.Author.Tests.{le-ltb, lt-ltb}
 use lib.IntN.{ℤ, pos, negsuc, natAbs, negℤ, subℕ, _+ℤ_, _-ℤ_, _*ℤ_}
-use lib.Signed.{mag, nonNeg}
+use lib.Signed.{mag}
 
 pub natAbs-neg : (z : ℤ) → natAbs (negℤ z) ≡ natAbs z
 natAbs-neg (pos zero) = refl
@@ -131,11 +130,6 @@ pub sub-ge : (a b : ℕ) → b ≤ a + natAbs (subℕ a b)
 sub-ge = diff-ind (λ a b. b ≤ a + natAbs (subℕ a b))
     (λ n b. omega arith)
     (λ n a. rw (sub-neg n a) (omega arith))
-
--- a natural plus a whole number no larger is no less than 0
-pub plus-nonneg : (a : ℕ) (z : ℤ) → natAbs z ≤ a → T (nonNeg (pos a +ℤ z))
-plus-nonneg a (pos n) h = tt
-plus-nonneg a (negsuc n) h = rw (le-ltb a (suc n) h) tt
 
 pub sub-ge2 : (a b : ℕ) → a ≤ b + natAbs (subℕ a b)
 sub-ge2 = diff-ind (λ a b. a ≤ b + natAbs (subℕ a b))

@@ -4,7 +4,7 @@ use mathlib.Core.Bool.{Bool, true, false, cond}
 use Prim.Native.Nat.{ℕ, zero, suc, _+_, _-_, _/_, _%_, _^_, _<_, _≤_}
 use native.Mathlib.Nat.{add-mod, mod-lt}
 use native.Mathlib.Omega.{arith}
-use borrow.Author.Tests.{lt-ltb, le-ltb, ltb-true}
+use borrow.Author.Tests.{lt-ltb, le-ltb, ltb-true, ltb-false}
 use lib.Dec.{lit<, ltb}
 use lib.IntN.{ℤ, pos, negsuc, _-ℤ_}
 use Rattle.times.specs.Times.{circle, second, grandEnd, sinceOf, units, grandOf, InRange, momentOf}
@@ -73,3 +73,12 @@ at-moment (pos n) g e = go (ltb n grandEnd) refl e
         rw q (record { seconds = omega arith; fraction = omega arith }, ap pos (omega arith))
     go false k f = let z : _≡_ {A = ℕ} 0 1 = cc in absurd (omega arith)
 at-moment (negsuc n) g e = let z : _≡_ {A = ℕ} 0 1 = cc in absurd (omega arith)
+
+-- a number that has none reaches the end of grand time
+pub beyond-moment : (n : ℕ) → momentOf (pos n) ≡ Beyond → grandEnd ≤ n
+unfolding momentOf
+beyond-moment n e = go (ltb n grandEnd) refl e
+  where
+    go : (t : Bool) → ltb n grandEnd ≡ t → cond t (At (grandOf n)) Beyond ≡ Beyond → grandEnd ≤ n
+    go true k f = let z : _≡_ {A = ℕ} 0 1 = cc in absurd (omega arith)
+    go false k f = ltb-false n grandEnd k

@@ -3,13 +3,16 @@ use borrow.Author.Needs.{needs}
 use mathlib.Core.Path.{_≡_, sym, ap, _∙_}
 use Prim.Native.Nat.{ℕ, _<_}
 use native.Mathlib.Omega.{arith}
+use mir.Syntax.{w64}
+use mir.Val.{toZ, ofZ}
 use Rattle.times.specs.Times.{sinceOf, momentOf}
 use Rattle.samples.specs.Keep.{endsOf, LawfulEnds}
 use Rattle.samples.specs.declared.Sample.{Sample}
 use Rattle.samples.specs.declared.Ends.the-variants.{Both}
-use Rattle.line.specs.Sent.{longestElapsed, sentTime}
+use Rattle.line.specs.Sent.{longestElapsed, reachOf, sentTime}
+use Rattle.numbers.proofs.Machine.{got}
 use Rattle.samples.proofs.KeepLaws.{ends-lawful}
-use Rattle.line.proofs.SentLaws.{sent-by, sent-late, sent-as}
+use Rattle.line.proofs.SentLaws.{in-reach, sent-by, sent-late, sent-as}
 use Rattle.line.proofs.departure.sent.Statement.{statement}
 use Rattle.line.proofs.departure.sent.Tie as tie
 
@@ -41,25 +44,35 @@ since-requires c κs = search needs
 returns : tie.Need-returns
 returns c = sent-late _ _ _ (both (c .before .before .before)) (omega arith)
 
-moment-at-requires : tie.Need-moment-at-requires
-moment-at-requires c κs =
-    let m = c .before .before .before .before in
-    (lawful m, (c .before .if1 .left, m .before .before .before .pre .1))
+difference-requires : tie.Need-difference-requires
+difference-requires c κs = search needs
 
--- where the call for the moment stands, and the moment with the elapsed time written out
-abbrev found : tie.After-moment-at → tie.After-oldest
+-- where the two ends stand, seen from the departure's distance, and that distance as it is passed on
+abbrev found : tie.After-difference → tie.After-oldest
 found c = c .before .before .before .before .before
 
-moment-is : (c : tie.After-moment-at) →
+reach-is : (c : tie.After-difference) →
     let m = found c in
     let s = m .before .before .before in
-    c .moment-at .result ≡ momentOf (sentTime (oldest m) (newest m) (sinceOf (s .args .t) (newest m .local)) (s .args .back))
-moment-is c =
-    let m = found c in
-    c .moment-at .ensures ∙ ap (λ (n : ℕ). momentOf (sentTime (oldest m) (newest m) n (m .before .before .before .args .back))) (c .before .before .before .since .ensures)
+    toZ w64 (ofZ w64 (c .difference .result)) ≡ reachOf (sinceOf (s .args .t) (newest m .local)) (s .args .back)
+reach-is c =
+    got (c .difference .ok)
+    (c .difference .ensures ∙ ap (λ (n : ℕ). reachOf n (found c .before .before .before .args .back)) (c .before .before .before .since .ensures))
 
-soon : (c : tie.After-moment-at) → let m = found c in sinceOf (m .before .before .before .args .t) (newest m .local) < longestElapsed
+soon : (c : tie.After-difference) → let m = found c in sinceOf (m .before .before .before .args .t) (newest m .local) < longestElapsed
 soon c = omega (arith, c .before .before .before .since .ensures, c .before .before .if1 .left)
+
+reading-requires : tie.Need-reading-requires
+reading-requires c κs =
+    let m = found c in
+    (lawful m, rw (reach-is c) (in-reach (oldest m) (newest m) _ _ (soon c) (m .before .before .before .pre .1)))
+
+moment-is : (c : tie.After-reading) →
+    let m = found (c .before) in
+    let s = m .before .before .before in
+    c .reading .result ≡ momentOf (sentTime (oldest m) (newest m) (sinceOf (s .args .t) (newest m .local)) (s .args .back))
+unfolding sentTime
+moment-is c = c .reading .ensures ∙ rw (reach-is (c .before))
 
 enum-known-time : tie.Need-enum-known-time
 enum-known-time c = search needs
@@ -73,12 +86,12 @@ returns-2 c = sent-by _ _ _ (sym (c .enum-told .given .1) ∙ c .before .before 
 returns-3 : tie.Need-returns-3
 returns-3 c =
     let a = c .before .before .before in
-    sent-as _ _ _ (both (found a)) (soon a) (sym (c .before .time .given .1) ∙ moment-is a)
+    sent-as _ _ _ (both (found (a .before))) (soon (a .before)) (sym (c .before .time .given .1) ∙ moment-is a)
 
 returns-4 : tie.Need-returns-4
 returns-4 c =
     let a = c .before .before in
-    sent-as _ _ _ (both (found a)) (soon a) (sym (c .enum-told2 .given .1) ∙ moment-is a)
+    sent-as _ _ _ (both (found (a .before))) (soon (a .before)) (sym (c .enum-told2 .given .1) ∙ moment-is a)
 
 pub sent-spec : {M : Type 1} → statement M
 sent-spec =
@@ -89,7 +102,8 @@ sent-spec =
     enum-known-oldest
     since-requires
     returns
-    moment-at-requires
+    difference-requires
+    reading-requires
     enum-known-time
     enum-told-2
     returns-2
