@@ -5,7 +5,7 @@ ghost use Prim.Native.Nat.{_+_, _*_, _≤_};
 ghost use lib.ListN.{length, take, drop};
 ghost use Rattle.numbers.specs.Digits.{digits};
 ghost use Rattle.hexline.specs.Print.{textOf};
-ghost use Rattle.columns.specs.Columns.{columnText, columnsText, columnRoom, room, bytesLine, line1, line2, line3, lineWith, longestAnswer, Prints};
+ghost use Rattle.columns.specs.Columns.{columnText, columnsText, room, bytesText, bytesLine, line1, line2, line3, lineWith, longestAnswer, Prints};
 use hexline::digits;
 use hexline::printing;
 
@@ -18,9 +18,7 @@ pub const SPACE: u64 = 32;
 
 pub const NEWLINE: u64 = 10;
 
-const LINE_END: u8 = b'\n';
-
-const NO_BYTES: u8 = b'-';
+const NO_BYTES: u64 = 45;
 
 const BYTE_VALUES: u64 = 256;
 
@@ -40,8 +38,8 @@ fn put_number(out: &mut [u8], at: usize, width: usize, value: u64)
 
 // Prints one column from `at` on, and answers where it ends.
 fn put_column(out: &mut [u8], at: usize, width: usize, value: u64) -> usize
-    requires { ⌜ at + columnRoom width ≤ length (now out) ⌝ }
-    ensures { λ r. ⌜ r ≡ at + columnRoom width ⌝ }
+    requires { ⌜ at + length (columnText width value) ≤ length (now out) ⌝ }
+    ensures { λ r. ⌜ r ≡ at + length (columnText width value) ⌝ }
     ensures { λ r. ⌜ now (out .exit) ≡ take at (now (out .entry)) ++ (columnText width value ++ drop r (now (out .entry))) ⌝ }
 {
     if width == CHARACTER {
@@ -68,21 +66,27 @@ pub fn put(out: &mut [u8], widths: &[usize], values: &[u64]) -> usize
     at
 }
 
+// Prints bytes, or the mark of none, from `at` on, and answers where they end.
+fn put_text(out: &mut [u8], at: usize, bytes: &[u8]) -> usize
+    requires { ⌜ at + length (bytesText (now bytes)) ≤ length (now out) ⌝ }
+    ensures { λ r. ⌜ r ≡ at + length (bytesText (now (bytes .entry))) ⌝ }
+    ensures { λ r. ⌜ now (out .exit) ≡ take at (now (out .entry)) ++ (bytesText (now (bytes .entry)) ++ drop r (now (out .entry))) ⌝ }
+{
+    if bytes.len() == 0 {
+        return put_column(out, at, CHARACTER, NO_BYTES);
+    }
+    printing::put_at(bytes, out, at);
+    at + bytes.len() * digits::DIGITS
+}
+
 // Prints bytes, or the mark of none, and a newline from `at` on, and answers where they end.
 pub fn put_bytes(out: &mut [u8], at: usize, bytes: &[u8]) -> usize
-    requires { ⌜ (at + 2 ≤ length (now out)) × (at + length (now bytes) * 2 + 1 ≤ length (now out)) ⌝ }
+    requires { ⌜ at + length (bytesLine (now bytes)) ≤ length (now out) ⌝ }
     ensures { λ r. ⌜ r ≡ at + length (bytesLine (now (bytes .entry))) ⌝ }
     ensures { λ r. ⌜ now (out .exit) ≡ take at (now (out .entry)) ++ (bytesLine (now (bytes .entry)) ++ drop r (now (out .entry))) ⌝ }
 {
-    if bytes.len() == 0 {
-        out[at] = NO_BYTES;
-        out[at + 1] = LINE_END;
-        return at + 2;
-    }
-    printing::put_at(bytes, out, at);
-    let end = at + bytes.len() * digits::DIGITS;
-    out[end] = LINE_END;
-    end + 1
+    let end = put_text(out, at, bytes);
+    put_column(out, end, CHARACTER, NEWLINE)
 }
 
 // Prints a line of columns.
@@ -131,7 +135,7 @@ pub fn with_bytes(out: &mut [u8], a: u8, bytes: &[u8]) -> usize
     requires { ⌜ longestAnswer ≤ length (now out) ⌝ }
     ensures { λ r. ⌜ Prints (lineWith a (now (bytes .entry))) r (now (out .entry)) (now (out .exit)) ⌝ }
 {
-    let at = line(out, &[BYTE, CHARACTER], &[a as u64, SPACE]);
+    let at = put(out, &[BYTE, CHARACTER], &[a as u64, SPACE]);
     put_bytes(out, at, bytes)
 }
 

@@ -1,11 +1,12 @@
--- What stands, and the text of the columns that are left, are the whole text.
-use mathlib.Core.Path.{_≡_, refl, sym, ap, _∙_}
-use mathlib.Core.List.{_++_}
-use Prim.Native.Nat.{_+_, _-_, _≤_}
+-- Where the columns that are left are put from here on, all are put from the start.
+use mathlib.Core.Path.{_≡_, refl, ap, _∙_}
+use mathlib.Core.List.{List, []}
+use Prim.Native.Nat.{ℕ, _+_, _-_, _<_, _≤_}
 use native.Mathlib.Omega.{arith}
-use lib.ListN.{length, take, drop, take-append-drop}
+use lib.ListN.{length, drop, getD}
+use lib.Seq.{drop-length}
 use Rattle.columns.specs.Columns.{columnsText, room}
-use Rattle.columns.proofs.ColumnLaws.{next-room, columns-step, columns-end}
+use Rattle.columns.proofs.ColumnLaws.{Puts, puts-nothing, next-room, next-column}
 use borrow.Author.Needs.{needs}
 use Rattle.columns.proofs.put.Statement.{statement}
 use Rattle.columns.proofs.put.Tie as tie
@@ -14,14 +15,14 @@ abbrev Inv-loop : tie.InvT-loop
 Inv-loop out₀ widths values at₀ i₀ out at i =
     (i ≤ length widths)
     × (length out ≡ length out₀)
-    × (at + room (drop i widths) ≡ room widths)
-    × (take at out ++ (columnsText (drop i widths) (drop i values) ++ drop (room widths) out) ≡ columnsText widths values ++ drop (room widths) out₀)
+    × (at + room (drop i widths) ≤ length out)
+    × ((left : List ℕ) (end : ℕ) → Puts (columnsText (drop i widths) (drop i values)) at end out left → Puts (columnsText widths values) 0 end out₀ left)
 
 abbrev μ-loop : tie.MeasureT-loop
 μ-loop out₀ widths values at₀ i₀ out at i = length widths - i
 
 loop-holds : tie.Need-loop-holds Inv-loop μ-loop
-loop-holds c = (search needs, refl, omega arith, refl)
+loop-holds c = (search needs, refl, search needs, λ left end p. p)
 
 mul-put-column : tie.Need-mul-put-column Inv-loop μ-loop
 mul-put-column c = search needs
@@ -38,7 +39,8 @@ shared-slice-read-put-column-2 c = search needs
 put-column-requires : tie.Need-put-column-requires Inv-loop μ-loop
 put-column-requires c κs =
     let l = c .before .before .before .before .loop in
-    omega (arith, next-room (c .before .before .before .before .before .before .before .before .args .widths .now) (l .i) (omega arith))
+    let a = c .before .before .before .before .before .before .before .before .args in
+    omega (arith, next-room (a .widths .now) (l .i) (omega arith) (getD (a .values .now) (l .i) 0))
 
 add-i : tie.Need-add-i Inv-loop μ-loop
 add-i c = search needs
@@ -50,19 +52,28 @@ loop-again : tie.Need-loop-again Inv-loop μ-loop
 loop-again c =
     let p = c .before .before in
     let l = p .before .before .before .before .before .loop in
-    let s = p .before .before .before .before .before .before .before .before .before in
-    let a = s .args in
-    let d = columns-step (a .widths .now) (a .values .now) (l .out) (p .put-column .last .0) (l .i) (l .at) (p .put-column .result) (omega arith) (omega arith) (omega arith) (l .inv .2) (p .put-column .ensures .0) (p .put-column .ensures .1) in
-    (omega arith, search needs, d .0, d .1 ∙ l .inv .3)
+    let a = p .before .before .before .before .before .before .before .before .before .args in
+    let ws = a .widths .now in
+    let vs = a .values .now in
+    let h : l .i < length ws = omega arith in (
+      omega arith,
+      search needs,
+      omega (arith, next-room ws (l .i) h (getD vs (l .i) 0), p .put-column .ensures .0, p .put-column .kept .0),
+      λ left end q. l .inv .3 left end (next-column ws (l .i) h vs (l .out) (p .put-column .last .0) left (l .at) (p .put-column .result) end (omega arith) (omega arith) (p .put-column .ensures) q),
+    )
 
 same-length : tie.Need-same-length Inv-loop μ-loop
 same-length c = search needs
 
 returns : tie.Need-returns Inv-loop μ-loop
+unfolding columnsText
 returns c =
     let l = c .before .loop in
     let s = c .before .before .before .before .before in
-    columns-end (s .args .widths .now) (s .args .values .now) (s .args .out .now) (l .out) (l .i) (l .at) (s .pre .0) (omega arith) (l .inv .2) (l .inv .3)
+    let e : l .i ≡ length (s .args .widths .now) = omega arith in
+    let z : drop (l .i) (s .args .widths .now) ≡ [] = ap (λ (n : ℕ). drop n (s .args .widths .now)) e ∙ drop-length (s .args .widths .now) in
+    let p = l .inv .3 (l .out) (l .at) (rw z (puts-nothing (l .at) (l .out))) in
+    (omega (arith, p .0), p .1)
 
 pub put-spec : {M : Type 1} → statement M
 put-spec =

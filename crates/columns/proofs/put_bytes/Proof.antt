@@ -1,69 +1,30 @@
--- No bytes, or some.
+-- The bytes, and then the newline.
 use native.Mathlib.Omega.{arith}
-use lib.ListN.{length-set}
-use Rattle.columns.proofs.ColumnLaws.{put-none, put-some}
+use Rattle.columns.specs.Columns.{columnText, bytesText, bytesLine}
+use Rattle.columns.proofs.ColumnLaws.{puts-both, length-bytes}
 use borrow.Author.Needs.{needs}
 use Rattle.columns.proofs.put_bytes.Statement.{statement}
 use Rattle.columns.proofs.put_bytes.Tie as tie
 
-slice-write-out : tie.Need-slice-write-out
-slice-write-out c = search needs
+put-text-requires : tie.Need-put-text-requires
+put-text-requires c κs = omega (arith, length-bytes (c .before .before .before .args .bytes .now))
 
-add-out : tie.Need-add-out
-add-out c = search needs
-
-slice-write-out-2 : tie.Need-slice-write-out-2
-slice-write-out-2 c = simp length-set (omega arith)
-
-add-result : tie.Need-add-result
-add-result c = search needs
+put-column-requires : tie.Need-put-column-requires
+unfolding columnText
+put-column-requires c κs =
+    let p = c .before .before .before in
+    omega (arith, length-bytes (p .before .before .before .before .args .bytes .now), p .put-text .ensures .0, p .put-text .kept .0)
 
 same-length : tie.Need-same-length
 same-length c = search needs
 
 returns : tie.Need-returns
+unfolding columnText bytesLine
 returns c =
-    let s = c .before .before .before in
-    put-none (s .args .out .now) (s .args .bytes .now) (s .args .at) (c .if1 .taken) (omega arith)
-
-put-at-requires : tie.Need-put-at-requires
-put-at-requires c κs = search needs
-
-mul-end : tie.Need-mul-end
-mul-end c = search needs
-
-add-end : tie.Need-add-end
-add-end c = search needs
-
-slice-write-out-3 : tie.Need-slice-write-out-3
-slice-write-out-3 c = search needs
-
-add-result-2 : tie.Need-add-result-2
-add-result-2 c = search needs
-
-same-length-2 : tie.Need-same-length-2
-same-length-2 c = search needs
-
-returns-2 : tie.Need-returns-2
-returns-2 c =
-    let p = c .before .before in
-    let s = p .before .before .before .before .before in
-    put-some (s .args .out .now) (s .args .bytes .now) (p .put-at .last .1 .0) (s .args .at) (p .before .before .if1 .left) (s .pre .1) (p .put-at .ensures)
+    let q = c .before .before in
+    let p = q .before .before .before .before in
+    let a = p .before .before .before .before .args in
+    puts-both (a .out .now) (p .put-text .last .0) (q .put-column .last .0) (bytesText (a .bytes .now)) (columnText 0 10) (a .at) (p .put-text .result) (q .put-column .result) (omega arith) (p .put-text .ensures) (q .put-column .ensures)
 
 pub put-bytes-spec : {M : Type 1} → statement M
-put-bytes-spec =
-    tie.close
-    (tie.spec
-    slice-write-out
-    add-out
-    slice-write-out-2
-    add-result
-    same-length
-    returns
-    put-at-requires
-    mul-end
-    add-end
-    slice-write-out-3
-    add-result-2
-    same-length-2
-    returns-2)
+put-bytes-spec = tie.close (tie.spec put-text-requires put-column-requires same-length returns)
