@@ -19,10 +19,10 @@ unfolding columnText
 column-character zero v e = refl
 column-character (suc w) v e = absurd (omega arith)
 
-pub column-number : (w v : ℕ) → (w ≡ 0 → ⊥) → columnText w v ≡ textOf (digits w v)
+pub column-number : (w v : ℕ) → (w ≡ 0 → ⊥) → (columnRoom w ≡ w * 2) × (columnText w v ≡ textOf (digits w v))
 unfolding columnText
 column-number zero v h = absurd (h refl)
-column-number (suc w) v h = refl
+column-number (suc w) v h = (refl, refl)
 
 pub bytes-none : (s : List ℕ) → length s ≡ 0 → bytesText s ≡ noBytesMark ∷ []
 bytes-none [] e = refl
@@ -34,13 +34,10 @@ bytes-some (b ∷ s) h = refl
 
 -- ---- lengths
 
-pub length-number : (w v : ℕ) → (w ≡ 0 → ⊥) → length (columnText w v) ≡ w * 2
-length-number w v h = ap length (column-number w v h) ∙ length-text (digits w v) ∙ ap (λ (n : ℕ). n * 2) (length-digits w v)
-
 pub length-column : (w v : ℕ) → length (columnText w v) ≡ columnRoom w
 unfolding columnText
 length-column zero v = refl
-length-column (suc w) v = length-number (suc w) v (λ e. omega arith)
+length-column (suc w) v = length-text (digits (suc w) v) ∙ ap (λ (n : ℕ). n * 2) (length-digits (suc w) v)
 
 pub length-columns : (ws vs : List ℕ) → length ws ≡ length vs → length (columnsText ws vs) ≡ room ws
 unfolding columnsText
@@ -49,14 +46,15 @@ length-columns (w ∷ ws) [] e = absurd (omega arith)
 length-columns (w ∷ ws) (v ∷ vs) e =
     length-append (columnText w v) (columnsText ws vs) ∙ omega (arith, length-column w v, length-columns ws vs (omega arith))
 
-pub length-bytes : (s : List ℕ) → length (bytesLine s) ≡ length (bytesText s) + 1
-unfolding bytesLine
-length-bytes s = length-append (bytesText s) (newline ∷ [])
+-- bytes fit where the mark and all digits fit
+pub bytes-fit : (s : List ℕ) (n : ℕ) → 1 ≤ n → length s * 2 ≤ n → length (bytesText s) ≤ n
+bytes-fit [] n h k = h
+bytes-fit (b ∷ s) n h k = omega (arith, length-text (b ∷ s))
 
 -- a line of at most 128 bytes
 pub bytes-most : (s : List ℕ) → length s ≤ 128 → length (bytesLine s) ≤ 257
-bytes-most [] h = omega (arith, length-bytes [])
-bytes-most (b ∷ s) h = omega (arith, length-bytes (b ∷ s), length-text (b ∷ s))
+unfolding bytesLine
+bytes-most s h = omega (arith, length-append (bytesText s) (newline ∷ []), bytes-fit s 256 (omega arith) (omega arith))
 
 -- ---- one byte of a number, from the last
 
@@ -97,8 +95,8 @@ puts-both was mid left s t at m end h p q =
 -- ---- one column more
 
 module _ (ws : List ℕ) (i : ℕ) (h : i < length ws) where
-  pub next-room : (v : ℕ) → room (drop i ws) ≡ length (columnText (getD ws i 0) v) + room (drop (i + 1) ws)
-  next-room v = rw (drop-cons ws i 0 h, add-one, length-column) refl
+  pub next-room : room (drop i ws) ≡ columnRoom (getD ws i 0) + room (drop (i + 1) ws)
+  next-room = rw (add-one, drop-cons ws i 0 h) refl
 
   pub next-column : (vs out mid left : List ℕ) (at m end : ℕ) → i < length vs → at ≤ length out → Puts (columnText (getD ws i 0) (getD vs i 0)) at m out mid
       → Puts (columnsText (drop (i + 1) ws) (drop (i + 1) vs)) m end mid left → Puts (columnsText (drop i ws) (drop i vs)) at end out left

@@ -5,7 +5,7 @@ ghost use Prim.Native.Nat.{_+_, _*_, _≤_};
 ghost use lib.ListN.{length, take, drop};
 ghost use Rattle.numbers.specs.Digits.{digits};
 ghost use Rattle.hexline.specs.Print.{textOf};
-ghost use Rattle.columns.specs.Columns.{columnText, columnsText, room, bytesText, bytesLine, line1, line2, line3, lineWith, longestAnswer, Prints};
+ghost use Rattle.columns.specs.Columns.{columnText, columnsText, columnRoom, room, bytesText, bytesLine, line1, line2, line3, lineWith, longestAnswer, Prints};
 use hexline::digits;
 use hexline::printing;
 
@@ -38,7 +38,7 @@ fn put_number(out: &mut [u8], at: usize, width: usize, value: u64)
 
 // Prints one column from `at` on, and answers where it ends.
 fn put_column(out: &mut [u8], at: usize, width: usize, value: u64) -> usize
-    requires { ⌜ at + length (columnText width value) ≤ length (now out) ⌝ }
+    requires { ⌜ at + columnRoom width ≤ length (now out) ⌝ }
     ensures { λ r. ⌜ r ≡ at + length (columnText width value) ⌝ }
     ensures { λ r. ⌜ now (out .exit) ≡ take at (now (out .entry)) ++ (columnText width value ++ drop r (now (out .entry))) ⌝ }
 {
@@ -68,7 +68,7 @@ pub fn put(out: &mut [u8], widths: &[usize], values: &[u64]) -> usize
 
 // Prints bytes, or the mark of none, from `at` on, and answers where they end.
 fn put_text(out: &mut [u8], at: usize, bytes: &[u8]) -> usize
-    requires { ⌜ at + length (bytesText (now bytes)) ≤ length (now out) ⌝ }
+    requires { ⌜ (at + 1 ≤ length (now out)) × (at + length (now bytes) * 2 ≤ length (now out)) ⌝ }
     ensures { λ r. ⌜ r ≡ at + length (bytesText (now (bytes .entry))) ⌝ }
     ensures { λ r. ⌜ now (out .exit) ≡ take at (now (out .entry)) ++ (bytesText (now (bytes .entry)) ++ drop r (now (out .entry))) ⌝ }
 {
@@ -81,7 +81,7 @@ fn put_text(out: &mut [u8], at: usize, bytes: &[u8]) -> usize
 
 // Prints bytes, or the mark of none, and a newline from `at` on, and answers where they end.
 pub fn put_bytes(out: &mut [u8], at: usize, bytes: &[u8]) -> usize
-    requires { ⌜ at + length (bytesLine (now bytes)) ≤ length (now out) ⌝ }
+    requires { ⌜ (at + 2 ≤ length (now out)) × (at + length (now bytes) * 2 + 1 ≤ length (now out)) ⌝ }
     ensures { λ r. ⌜ r ≡ at + length (bytesLine (now (bytes .entry))) ⌝ }
     ensures { λ r. ⌜ now (out .exit) ≡ take at (now (out .entry)) ++ (bytesLine (now (bytes .entry)) ++ drop r (now (out .entry))) ⌝ }
 {

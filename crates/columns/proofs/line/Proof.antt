@@ -5,12 +5,6 @@ use Rattle.columns.proofs.ColumnLaws.{length-columns, printed}
 use Rattle.columns.proofs.line.Statement.{statement}
 use Rattle.columns.proofs.line.Tie as tie
 
-put-requires : tie.Need-put-requires
-put-requires c κs = search needs
-
-same-length : tie.Need-same-length
-same-length c = search needs
-
 returns : tie.Need-returns
 returns c =
     let p = c .before .before .put in
@@ -18,4 +12,4 @@ returns c =
     printed (omega (arith, p .ensures .0), p .ensures .1) (omega (arith, length-columns (s .args .widths .now) (s .args .values .now) (s .pre .0), p .ensures .0, s .pre .1))
 
 pub line-spec : {M : Type 1} → statement M
-line-spec = tie.close (tie.spec put-requires same-length returns)
+line-spec = tie.close (tie.spec (λ c κs. search needs) (λ c. search needs) returns)

@@ -6,7 +6,7 @@ use native.Mathlib.Omega.{arith}
 use lib.ListN.{length, drop, getD}
 use lib.Seq.{drop-length}
 use Rattle.columns.specs.Columns.{columnsText, room}
-use Rattle.columns.proofs.ColumnLaws.{Puts, puts-nothing, next-room, next-column}
+use Rattle.columns.proofs.ColumnLaws.{length-column, Puts, puts-nothing, next-room, next-column}
 use borrow.Author.Needs.{needs}
 use Rattle.columns.proofs.put.Statement.{statement}
 use Rattle.columns.proofs.put.Tie as tie
@@ -24,29 +24,10 @@ abbrev μ-loop : tie.MeasureT-loop
 loop-holds : tie.Need-loop-holds Inv-loop μ-loop
 loop-holds c = (search needs, refl, search needs, λ left end p. p)
 
-mul-put-column : tie.Need-mul-put-column Inv-loop μ-loop
-mul-put-column c = search needs
-
-shared-slice-read-put-column : tie.Need-shared-slice-read-put-column Inv-loop μ-loop
-shared-slice-read-put-column c = search needs
-
-mul-put-column-2 : tie.Need-mul-put-column-2 Inv-loop μ-loop
-mul-put-column-2 c = search needs
-
-shared-slice-read-put-column-2 : tie.Need-shared-slice-read-put-column-2 Inv-loop μ-loop
-shared-slice-read-put-column-2 c = search needs
-
 put-column-requires : tie.Need-put-column-requires Inv-loop μ-loop
 put-column-requires c κs =
     let l = c .before .before .before .before .loop in
-    let a = c .before .before .before .before .before .before .before .before .args in
-    omega (arith, next-room (a .widths .now) (l .i) (omega arith) (getD (a .values .now) (l .i) 0))
-
-add-i : tie.Need-add-i Inv-loop μ-loop
-add-i c = search needs
-
-loop-less : tie.Need-loop-less Inv-loop μ-loop
-loop-less c = search needs
+    omega (arith, next-room (c .before .before .before .before .before .before .before .before .args .widths .now) (l .i) (omega arith))
 
 loop-again : tie.Need-loop-again Inv-loop μ-loop
 loop-again c =
@@ -58,12 +39,9 @@ loop-again c =
     let h : l .i < length ws = omega arith in (
       omega arith,
       search needs,
-      omega (arith, next-room ws (l .i) h (getD vs (l .i) 0), p .put-column .ensures .0, p .put-column .kept .0),
+      omega (arith, next-room ws (l .i) h, length-column (getD ws (l .i) 0) (getD vs (l .i) 0), p .put-column .ensures .0, p .put-column .kept .0),
       λ left end q. l .inv .3 left end (next-column ws (l .i) h vs (l .out) (p .put-column .last .0) left (l .at) (p .put-column .result) end (omega arith) (omega arith) (p .put-column .ensures) q),
     )
-
-same-length : tie.Need-same-length Inv-loop μ-loop
-same-length c = search needs
 
 returns : tie.Need-returns Inv-loop μ-loop
 unfolding columnsText
@@ -82,13 +60,13 @@ put-spec =
     Inv-loop
     μ-loop
     loop-holds
-    mul-put-column
-    shared-slice-read-put-column
-    mul-put-column-2
-    shared-slice-read-put-column-2
+    (λ c. search needs)
+    (λ c. search needs)
+    (λ c. search needs)
+    (λ c. search needs)
     put-column-requires
-    add-i
-    loop-less
+    (λ c. search needs)
+    (λ c. search needs)
     loop-again
-    same-length
+    (λ c. search needs)
     returns)

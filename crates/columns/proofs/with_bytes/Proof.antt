@@ -16,23 +16,11 @@ start a = columnsText (1 ∷ 0 ∷ []) (a ∷ space ∷ [])
 start-length : (a : ℕ) → length (start a) ≡ 3
 start-length a = length-columns (1 ∷ 0 ∷ []) (a ∷ space ∷ []) refl
 
-slice-aggregate-put : tie.Need-slice-aggregate-put
-slice-aggregate-put c = search needs
-
-slice-aggregate-put-2 : tie.Need-slice-aggregate-put-2
-slice-aggregate-put-2 c = search needs
-
-put-requires : tie.Need-put-requires
-put-requires c κs = search needs
-
 put-bytes-requires : tie.Need-put-bytes-requires
 put-bytes-requires c κs =
     let p = c .before .before .before in
     let s = p .before .before .before .before .before .before in
-    omega (arith, p .put .ensures .0, start-length (s .args .a), p .put .kept .0, bytes-most (s .args .bytes .now) (s .pre .0), s .pre .1)
-
-same-length : tie.Need-same-length
-same-length c = search needs
+    omega (arith, p .put .ensures .0, start-length (s .args .a), p .put .kept .0, s .pre .0, s .pre .1)
 
 returns : tie.Need-returns
 returns c =
@@ -48,9 +36,9 @@ pub with-bytes-spec : {M : Type 1} → statement M
 with-bytes-spec =
     tie.close
     (tie.spec
-    slice-aggregate-put
-    slice-aggregate-put-2
-    put-requires
+    (λ c. search needs)
+    (λ c. search needs)
+    (λ c κs. search needs)
     put-bytes-requires
-    same-length
+    (λ c. search needs)
     returns)
