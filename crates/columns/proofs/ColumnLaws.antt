@@ -10,7 +10,7 @@ use Rattle.numbers.specs.Digits.{digits}
 use Rattle.numbers.proofs.Places.{length-digits}
 use Rattle.hexline.specs.Print.{textOf, withByte}
 use Rattle.hexline.proofs.PrintLaws.{with-byte, text-append, length-text}
-use Rattle.columns.specs.Columns.{newline, noBytesMark, longestAnswer, columnText, columnsText, columnRoom, room, bytesText, bytesLine, Prints}
+use Rattle.columns.specs.Columns.{newline, noBytesMark, mostBytes, longestAnswer, columnText, columnsText, columnRoom, room, bytesText, bytesLine, Prints}
 
 -- ---- the cases of a column and of bytes
 
@@ -51,8 +51,7 @@ pub bytes-fit : (s : List ℕ) (n : ℕ) → 1 ≤ n → length s * 2 ≤ n → 
 bytes-fit [] n h k = h
 bytes-fit (b ∷ s) n h k = omega (arith, length-text (b ∷ s))
 
--- a line of at most 128 bytes
-pub bytes-most : (s : List ℕ) → length s ≤ 128 → length (bytesLine s) ≤ 257
+pub bytes-most : (s : List ℕ) → length s ≤ mostBytes → length (bytesLine s) ≤ 257
 unfolding bytesLine
 bytes-most s h = omega (arith, length-append (bytesText s) (newline ∷ []), bytes-fit s 256 (omega arith) (omega arith))
 

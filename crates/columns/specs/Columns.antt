@@ -15,7 +15,11 @@ newline = 10
 abbrev pub noBytesMark : ℕ
 noBytesMark = 45
 
--- the longest line: an answer, a space, 128 bytes and a newline
+-- the most bytes on a line
+abbrev pub mostBytes : ℕ
+mostBytes = 128
+
+-- the longest line: an answer, a space, that many bytes as digits, a newline
 abbrev pub longestAnswer : ℕ
 longestAnswer = 260
 

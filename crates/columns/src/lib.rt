@@ -5,7 +5,7 @@ ghost use Prim.Native.Nat.{_+_, _*_, _≤_};
 ghost use lib.ListN.{length, take, drop};
 ghost use Rattle.numbers.specs.Digits.{digits};
 ghost use Rattle.hexline.specs.Print.{textOf};
-ghost use Rattle.columns.specs.Columns.{columnText, columnsText, columnRoom, room, bytesText, bytesLine, line1, line2, line3, lineWith, longestAnswer, Prints};
+ghost use Rattle.columns.specs.Columns.{columnText, columnsText, columnRoom, room, bytesText, bytesLine, line1, line2, line3, lineWith, mostBytes, longestAnswer, Prints};
 use hexline::digits;
 use hexline::printing;
 
@@ -14,12 +14,15 @@ pub const CHARACTER: usize = 0;
 
 pub const BYTE: usize = 1;
 
-pub const SPACE: u64 = 32;
+// Characters, as values of a column.
+pub const SPACE: u64 = b' ' as u64;
 
-pub const NEWLINE: u64 = 10;
+pub const NEWLINE: u64 = b'\n' as u64;
 
-const NO_BYTES: u64 = 45;
+// The mark of no bytes.
+const NO_BYTES: u64 = b'-' as u64;
 
+// How many values a byte has.
 const BYTE_VALUES: u64 = 256;
 
 // Stores the digits of the `width` low bytes of a number from `at` on, the last first.
@@ -112,9 +115,11 @@ pub fn two(out: &mut [u8], a: u8, b: u8) -> usize
     requires { ⌜ longestAnswer ≤ length (now out) ⌝ }
     ensures { λ r. ⌜ Prints (line2 a b) r (now (out .entry)) (now (out .exit)) ⌝ }
 {
-    let widths = [BYTE, CHARACTER, BYTE, CHARACTER];
-    let values = [a as u64, SPACE, b as u64, NEWLINE];
-    line(out, &widths, &values)
+    line(
+        out,
+        &[BYTE, CHARACTER, BYTE, CHARACTER],
+        &[a as u64, SPACE, b as u64, NEWLINE],
+    )
 }
 
 // Prints three bytes.
@@ -131,7 +136,7 @@ pub fn three(out: &mut [u8], a: u8, b: u8, c: u8) -> usize
 
 // Prints one byte and then bytes.
 pub fn with_bytes(out: &mut [u8], a: u8, bytes: &[u8]) -> usize
-    requires { ⌜ length (now bytes) ≤ 128 ⌝ }
+    requires { ⌜ length (now bytes) ≤ mostBytes ⌝ }
     requires { ⌜ longestAnswer ≤ length (now out) ⌝ }
     ensures { λ r. ⌜ Prints (lineWith a (now (bytes .entry))) r (now (out .entry)) (now (out .exit)) ⌝ }
 {
@@ -141,7 +146,7 @@ pub fn with_bytes(out: &mut [u8], a: u8, bytes: &[u8]) -> usize
 
 // Prints bytes.
 pub fn only_bytes(out: &mut [u8], bytes: &[u8]) -> usize
-    requires { ⌜ length (now bytes) ≤ 128 ⌝ }
+    requires { ⌜ length (now bytes) ≤ mostBytes ⌝ }
     requires { ⌜ longestAnswer ≤ length (now out) ⌝ }
     ensures { λ r. ⌜ Prints (bytesLine (now (bytes .entry))) r (now (out .entry)) (now (out .exit)) ⌝ }
 {
