@@ -1,0 +1,97 @@
+-- Laws of one field: a number has at most 16 digits, and a good field lies within its text and its room.
+use mathlib.Core.Path.{_≡_, refl, sym, ap, _∙_}
+use mathlib.Core.Bool.{Bool, true, false, cond, true≢false}
+use Prim.Native.Nat.{ℕ, suc, _+_, _*_, _-_, _/_, _%_, _<_, _≤_}
+use mathlib.Core.List.{List, [], _∷_}
+use native.Mathlib.Numerals.{add-one}
+use native.Mathlib.Omega.{arith}
+use lib.Dec.{ltb, leb, eqb}
+use lib.ListN.{length, take, drop}
+use borrow.Author.Tests.{ltb-false, leb-true}
+use Rattle.hexline.specs.Digit.{allDigits}
+use Rattle.hexline.specs.Search.{upTo, foundAt}
+use Rattle.hexline.proofs.SearchLaws.{up-taken, found-within}
+use Rattle.fields.specs.Kind.{EXACTLY, BYTE, NUMBER-OR-DEFAULT, DELAY-OR-MEASURED, FLAG, LENGTH, BYTES}
+use Rattle.fields.specs.Field.{space, mostDigits, ruleOf, isMark, areDigits, noField, bytesField, fieldOf, fieldAt}
+use Rattle.fields.specs.declared.field.Rule.{Rule}
+use Rattle.fields.specs.declared.field.Field.{Field}
+
+-- what holds of both holds of either
+either : {A : Type 0} (P : A → Type 0) (b : Bool) {x y : A} → P x → P y → P (cond b x y)
+either P true p q = p
+either P false p q = q
+
+-- ---- a number has at most 16 digits
+
+abbrev Short : Rule → Type 0
+Short r = r .bytes ≡ false → r .most ≤ mostDigits
+
+short : (kind : ℕ) → Short (ruleOf kind)
+unfolding ruleOf
+short kind =
+    either Short (leb EXACTLY kind) (λ e. absurd (true≢false e))
+    (either Short (eqb kind BYTE) (λ e. omega arith)
+    (either Short (eqb kind NUMBER-OR-DEFAULT) (λ e. omega arith)
+    (either Short (eqb kind DELAY-OR-MEASURED) (λ e. omega arith)
+    (either Short (eqb kind FLAG) (λ e. omega arith)
+    (either Short (eqb kind LENGTH) (λ e. omega arith)
+    (either Short (eqb kind BYTES) (λ e. absurd (true≢false e))
+    (λ e. omega arith)))))))
+
+at-most : (f : List ℕ) (fewest most : ℕ) → areDigits f fewest most ≡ true → length f ≤ most
+unfolding areDigits
+at-most f fewest most = go (ltb (length f) fewest) (ltb most (length f)) refl
+  where
+    go : (a b : Bool) → ltb most (length f) ≡ b → cond a false (cond b false (allDigits f)) ≡ true → length f ≤ most
+    go true b e p = absurd (true≢false (sym p))
+    go false true e p = absurd (true≢false (sym p))
+    go false false e p = ltb-false most (length f) e
+
+pub number-digits : (kind : ℕ) (f : List ℕ) {r : Rule} → r ≡ ruleOf kind → r .bytes ≡ false → areDigits f (r .fewest) (r .most) ≡ true → length f ≤ 16
+number-digits kind f {r} e b d = omega (arith, at-most f (r .fewest) (r .most) d, (rw (← e) at (short kind)) b)
+
+-- ---- a field within its text
+
+-- what is cut out after a space is the field
+pub field-taken : (s : List ℕ) (from to : ℕ) → to ≡ foundAt space s (from + 1) → take (to - (from + 1)) (drop (from + 1) s) ≡ upTo space (drop (suc from) s)
+field-taken s from to e =
+    let rest = drop (from + 1) s in
+    let n : to - (from + 1) ≡ length (upTo space rest) = omega arith in
+    ap (λ (k : ℕ). take k rest) n ∙ up-taken space rest ∙ ap (λ (k : ℕ). upTo space (drop k s)) (add-one from)
+
+-- a good field with its space lies within n characters, and has two digits for each byte and room for its bytes
+pub record Within (room n : ℕ) (x : Field) : Type 0 where
+  pub inside : x .width < n
+  pub digits : x .size * 2 ≤ x .width
+  pub fits : x .size ≤ room
+
+abbrev Sound : ℕ → ℕ → Field → Type 0
+Sound room n x = x .good ≡ true → Within room n x
+
+none-sound : (room n : ℕ) → Sound room n noField
+none-sound room n e = absurd (true≢false (sym e))
+
+bytes-sound : (room n w : ℕ) → w < n → Sound room n (bytesField w room)
+unfolding bytesField
+bytes-sound room n w h =
+    either (Sound room n) (eqb (w % 2) 0)
+    (λ e. record { inside = h; digits = omega arith; fits = leb-true (w / 2) room e }) (none-sound room n)
+
+sound : (kind room : ℕ) (s : List ℕ) → Sound room (length s) (fieldAt kind room s)
+unfolding fieldAt fieldOf
+sound kind room [] = none-sound room 0
+sound kind room (c ∷ s) =
+    let f = upTo space s in
+    let r = ruleOf kind in
+    let P = Sound room (suc (length s)) in
+    let none = none-sound room (suc (length s)) in
+    let h : length f < suc (length s) = omega (arith, found-within space s 0 (omega arith)) in
+    either P (eqb c space)
+    (either P (isMark f (r .mark)) (λ e. record { inside = h; digits = omega arith; fits = omega arith })
+    (either P (areDigits f (r .fewest) (r .most))
+    (either P (r .bytes) (bytes-sound room (suc (length s)) (length f) h) (λ e. record { inside = h; digits = omega arith; fits = omega arith }))
+    none))
+    none
+
+pub within : (kind room : ℕ) (s : List ℕ) {x : Field} → x ≡ fieldAt kind room s → x .good ≡ true → Within room (length s) x
+within kind room s e g = (rw (← e) at (sound kind room s)) g

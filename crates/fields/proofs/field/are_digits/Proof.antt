@@ -1,0 +1,21 @@
+-- Too few, too many, or by the digits.
+use borrow.Author.Tests.{lt-ltb, le-ltb}
+use borrow.Author.Needs.{needs}
+use Rattle.fields.specs.Field.{areDigits}
+use Rattle.fields.proofs.field.are_digits.Statement.{statement}
+use Rattle.fields.proofs.field.are_digits.Tie as tie
+
+few : tie.Need-returns
+unfolding areDigits
+few c = rw (lt-ltb _ _ (c .if1 .taken))
+
+many : tie.Need-returns-2
+unfolding areDigits
+many c = rw (le-ltb _ _ (c .before .if1 .left), lt-ltb _ _ (c .if2 .taken))
+
+within : tie.Need-returns-3
+unfolding areDigits
+within c = rw (le-ltb _ _ (c .before .before .if1 .left), le-ltb _ _ (c .before .if2 .left)) (c .all .ensures)
+
+pub are-digits-spec : {M : Type 1} → statement M
+are-digits-spec = tie.close (tie.spec few many (λ c κs. search needs) within)
