@@ -1,4 +1,4 @@
--- Laws of one field: a number has at most 16 digits, and a good field lies within its text and its room.
+-- Laws of one field: a number has at most 16 digits, and a good field lies within its text, its room and its kind's most.
 use mathlib.Core.Path.{_≡_, refl, sym, ap, _∙_}
 use mathlib.Core.Bool.{Bool, true, false, cond, true≢false}
 use Prim.Native.Nat.{ℕ, suc, _+_, _*_, _-_, _/_, _%_, _<_, _≤_}
@@ -8,17 +8,17 @@ use native.Mathlib.Omega.{arith}
 use lib.Dec.{ltb, leb, eqb}
 use lib.ListN.{length, take, drop}
 use borrow.Author.Tests.{ltb-false, leb-true}
-use Rattle.hexline.specs.Digit.{allDigits}
+use Rattle.hexline.specs.Digit.{allDigits, worth}
 use Rattle.hexline.specs.Search.{upTo, foundAt}
 use Rattle.hexline.proofs.SearchLaws.{up-taken, found-within}
 use Rattle.fields.specs.Kind.{EXACTLY, BYTE, NUMBER-OR-DEFAULT, DELAY-OR-MEASURED, FLAG, LENGTH, BYTES}
-use Rattle.fields.specs.Field.{space, mostDigits, ruleOf, isMark, areDigits, noField, bytesField, fieldOf, fieldAt}
+use Rattle.fields.specs.Field.{space, mostDigits, ruleOf, isMark, areDigits, noField, bytesField, numberField, fieldOf, fieldAt}
 use Rattle.fields.specs.declared.field.Rule.{Rule}
 use Rattle.fields.specs.declared.field.Field.{Field}
 
--- what holds of both holds of either
-either : {A : Type 0} (P : A → Type 0) (b : Bool) {x y : A} → P x → P y → P (cond b x y)
-either P true p q = p
+-- what holds of both, of the first where the test holds, holds of the one that is chosen
+pub either : {A : Type 0} (P : A → Type 0) (b : Bool) {x y : A} → (b ≡ true → P x) → P y → P (cond b x y)
+either P true p q = p refl
 either P false p q = q
 
 -- ---- a number has at most 16 digits
@@ -29,13 +29,13 @@ Short r = r .bytes ≡ false → r .most ≤ mostDigits
 short : (kind : ℕ) → Short (ruleOf kind)
 unfolding ruleOf
 short kind =
-    either Short (leb EXACTLY kind) (λ e. absurd (true≢false e))
-    (either Short (eqb kind BYTE) (λ e. omega arith)
-    (either Short (eqb kind NUMBER-OR-DEFAULT) (λ e. omega arith)
-    (either Short (eqb kind DELAY-OR-MEASURED) (λ e. omega arith)
-    (either Short (eqb kind FLAG) (λ e. omega arith)
-    (either Short (eqb kind LENGTH) (λ e. omega arith)
-    (either Short (eqb kind BYTES) (λ e. absurd (true≢false e))
+    either Short (leb EXACTLY kind) (λ t e. absurd (true≢false e))
+    (either Short (eqb kind BYTE) (λ t e. omega arith)
+    (either Short (eqb kind NUMBER-OR-DEFAULT) (λ t e. omega arith)
+    (either Short (eqb kind DELAY-OR-MEASURED) (λ t e. omega arith)
+    (either Short (eqb kind FLAG) (λ t e. omega arith)
+    (either Short (eqb kind LENGTH) (λ t e. omega arith)
+    (either Short (eqb kind BYTES) (λ t e. absurd (true≢false e))
     (λ e. omega arith)))))))
 
 at-most : (f : List ℕ) (fewest most : ℕ) → areDigits f fewest most ≡ true → length f ≤ most
@@ -59,39 +59,46 @@ field-taken s from to e =
     let n : to - (from + 1) ≡ length (upTo space rest) = omega arith in
     ap (λ (k : ℕ). take k rest) n ∙ up-taken space rest ∙ ap (λ (k : ℕ). upTo space (drop k s)) (add-one from)
 
--- a good field with its space lies within n characters, and has two digits for each byte and room for its bytes
-pub record Within (room n : ℕ) (x : Field) : Type 0 where
+-- the greatest number of a rule, or the most bytes
+abbrev pub mostOf : Rule → ℕ
+mostOf r = cond (r .bytes) (r .most / 2) (r .greatest)
+
+-- a good field with its space lies within n characters, has two digits for each byte and room for its bytes, and its number is at most this
+pub record Within (room n most : ℕ) (x : Field) : Type 0 where
   pub inside : x .width < n
   pub digits : x .size * 2 ≤ x .width
   pub fits : x .size ≤ room
+  pub small : x .number ≤ most
 
-abbrev Sound : ℕ → ℕ → Field → Type 0
-Sound room n x = x .good ≡ true → Within room n x
+abbrev Sound : ℕ → ℕ → ℕ → Field → Type 0
+Sound room n most x = x .good ≡ true → Within room n most x
 
-none-sound : (room n : ℕ) → Sound room n noField
-none-sound room n e = absurd (true≢false (sym e))
+none-sound : (room n most : ℕ) → Sound room n most noField
+none-sound room n most e = absurd (true≢false (sym e))
 
-bytes-sound : (room n w : ℕ) → w < n → Sound room n (bytesField w room)
+digits-sound : (room n most greatest : ℕ) (f : List ℕ) (b : Bool) → length f < n → length f ≤ most
+    → Sound room n (cond b (most / 2) greatest) (cond b (bytesField (length f) room) (numberField greatest f))
 unfolding bytesField
-bytes-sound room n w h =
-    either (Sound room n) (eqb (w % 2) 0)
-    (λ e. record { inside = h; digits = omega arith; fits = leb-true (w / 2) room e }) (none-sound room n)
+digits-sound room n most greatest f true h m =
+    either (Sound room n (most / 2)) (eqb (length f % 2) 0)
+    (λ t e. record { inside = h; digits = omega arith; fits = leb-true (length f / 2) room e; small = omega arith })
+    (none-sound room n (most / 2))
+digits-sound room n most greatest f false h m = λ e. record { inside = h; digits = omega arith; fits = omega arith; small = leb-true (worth 0 f) greatest e }
 
-sound : (kind room : ℕ) (s : List ℕ) → Sound room (length s) (fieldAt kind room s)
+sound : (kind room : ℕ) (s : List ℕ) → Sound room (length s) (mostOf (ruleOf kind)) (fieldAt kind room s)
 unfolding fieldAt fieldOf
-sound kind room [] = none-sound room 0
+sound kind room [] = none-sound room 0 (mostOf (ruleOf kind))
 sound kind room (c ∷ s) =
     let f = upTo space s in
     let r = ruleOf kind in
-    let P = Sound room (suc (length s)) in
-    let none = none-sound room (suc (length s)) in
+    let P = Sound room (suc (length s)) (mostOf r) in
+    let none = none-sound room (suc (length s)) (mostOf r) in
     let h : length f < suc (length s) = omega (arith, found-within space s 0 (omega arith)) in
     either P (eqb c space)
-    (either P (isMark f (r .mark)) (λ e. record { inside = h; digits = omega arith; fits = omega arith })
-    (either P (areDigits f (r .fewest) (r .most))
-    (either P (r .bytes) (bytes-sound room (suc (length s)) (length f) h) (λ e. record { inside = h; digits = omega arith; fits = omega arith }))
+    (λ t. either P (isMark f (r .mark)) (λ m e. record { inside = h; digits = omega arith; fits = omega arith; small = omega arith })
+    (either P (areDigits f (r .fewest) (r .most)) (λ d. digits-sound room (suc (length s)) (r .most) (r .greatest) f (r .bytes) h (at-most f (r .fewest) (r .most) d))
     none))
     none
 
-pub within : (kind room : ℕ) (s : List ℕ) {x : Field} → x ≡ fieldAt kind room s → x .good ≡ true → Within room (length s) x
+pub within : (kind room : ℕ) (s : List ℕ) {x : Field} → x ≡ fieldAt kind room s → x .good ≡ true → Within room (length s) (mostOf (ruleOf kind)) x
 within kind room s e g = (rw (← e) at (sound kind room s)) g

@@ -19,14 +19,14 @@ use Rattle.fields.specs.declared.field.Field.{Field}
 pub kinds-most : (row : List ℕ) → length (kindsOf row) ≤ mostFields
 kinds-most row = omega (arith, found-within END (take mostFields row) 0 (omega arith), length-take mostFields row)
 
-kinds-next : (row : List ℕ) (i : ℕ) → i < length (kindsOf row) → drop i (kindsOf row) ≡ getD row i 0 ∷ drop (i + 1) (kindsOf row)
-kinds-next row i h =
-    let kinds = kindsOf row in
-    let same : getD kinds i 0 ≡ getD row i 0 =
+pub kinds-at : (row : List ℕ) (i : ℕ) → i < length (kindsOf row) → getD (kindsOf row) i 0 ≡ getD row i 0
+kinds-at row i h =
     ap (λ (l : List ℕ). getD l i 0) (sym (up-taken END (take mostFields row)))
-    ∙ getD-take (length kinds) (take mostFields row) i 0 h
-    ∙ getD-take mostFields row i 0 (omega (arith, kinds-most row)) in
-    rw add-one (drop-cons kinds i 0 h ∙ ap (λ (k : ℕ). k ∷ drop (suc i) kinds) same)
+    ∙ getD-take (length (kindsOf row)) (take mostFields row) i 0 h
+    ∙ getD-take mostFields row i 0 (omega (arith, kinds-most row))
+
+kinds-next : (row : List ℕ) (i : ℕ) → i < length (kindsOf row) → drop i (kindsOf row) ≡ getD row i 0 ∷ drop (i + 1) (kindsOf row)
+kinds-next row i h = rw (add-one, ← kinds-at row i h) (drop-cons (kindsOf row) i 0 h)
 
 pub walk-all : (row text : List ℕ) → walk (kindsOf row) text 0 nothingHeld ≡ formOf row text
 unfolding formOf

@@ -3,13 +3,14 @@ use mathlib.Core.Path.{_≡_, refl, sym, _∙_}
 use mathlib.Core.List.{List}
 use Prim.Native.Nat.{ℕ, _+_, _*_, _-_, _≤_}
 use native.Mathlib.Omega.{arith}
-use lib.ListN.{length, drop, length-drop, length-set}
+use lib.ListN.{length, drop, getD, length-drop, length-set}
 use lib.Seq.{length-take-le, length-slice}
 use borrow.Rule.Slice.PartMut.{same-len-mid}
 use borrow.Author.Tests.{not-true, not-false}
 use borrow.Author.Needs.{needs}
+use Rattle.fields.specs.Field.{ruleOf}
 use Rattle.fields.specs.Form.{mostFields, mostBytes, kindsOf, Held, nothingHeld, walk, formOf}
-use Rattle.fields.proofs.FieldLaws.{Within, within}
+use Rattle.fields.proofs.FieldLaws.{mostOf, Within, within}
 use Rattle.fields.proofs.FormLaws.{kinds-most, walk-all, walk-end, walk-bad, walk-more}
 use Rattle.fields.proofs.read.Statement.{statement}
 use Rattle.fields.proofs.read.Tie as tie
@@ -35,7 +36,7 @@ held c = record { numbers = c .loop .numbers; marked = c .loop .marked; bytes = 
 -- a good field lies within the rest of the line, and in the room that is left
 known : (c : tie.Else1 Inv-loop μ-loop) →
     let l = c .before .before .before .before in
-    Within (mostBytes - l .loop .used) (length (rest l) - l .loop .at) (c .before .before .at .result)
+    Within (mostBytes - l .loop .used) (length (rest l) - l .loop .at) (mostOf (ruleOf (getD (row l) (l .loop .i) 0))) (c .before .before .at .result)
 known c = rw (← length-drop) (within _ _ _ (c .before .before .at .ensures) (not-false _ (c .if1 .left)))
 
 slice-aggregate-found : tie.Need-slice-aggregate-found Inv-loop μ-loop
