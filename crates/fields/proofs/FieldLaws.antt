@@ -12,7 +12,7 @@ use Rattle.hexline.specs.Digit.{allDigits, worth}
 use Rattle.hexline.specs.Search.{upTo, foundAt}
 use Rattle.hexline.proofs.SearchLaws.{up-taken, found-within}
 use Rattle.fields.specs.Kind.{EXACTLY, BYTE, NUMBER-OR-DEFAULT, DELAY-OR-MEASURED, FLAG, LENGTH, BYTES}
-use Rattle.fields.specs.Field.{space, mostDigits, ruleOf, isMark, areDigits, noField, bytesField, numberField, fieldOf, fieldAt}
+use Rattle.fields.specs.Field.{space, mostDigits, ruleOf, isMark, areDigits, noField, bytesField, numberField, ruledField, fieldOf, fieldAt}
 use Rattle.fields.specs.declared.field.Rule.{Rule}
 use Rattle.fields.specs.declared.field.Field.{Field}
 
@@ -85,20 +85,21 @@ digits-sound room n most greatest f true h m =
     (none-sound room n (most / 2))
 digits-sound room n most greatest f false h m = λ e. record { inside = h; digits = omega arith; fits = omega arith; small = leb-true (worth 0 f) greatest e }
 
+ruled-sound : (r : Rule) (room n : ℕ) (f : List ℕ) → length f < n → Sound room n (mostOf r) (ruledField r room f)
+ruled-sound r room n f h =
+    let P = Sound room n (mostOf r) in
+    either P (isMark f (r .mark)) (λ m e. record { inside = h; digits = omega arith; fits = omega arith; small = omega arith })
+    (either P (areDigits f (r .fewest) (r .most)) (λ d. digits-sound room n (r .most) (r .greatest) f (r .bytes) h (at-most f (r .fewest) (r .most) d))
+    (none-sound room n (mostOf r)))
+
 sound : (kind room : ℕ) (s : List ℕ) → Sound room (length s) (mostOf (ruleOf kind)) (fieldAt kind room s)
 unfolding fieldAt fieldOf
 sound kind room [] = none-sound room 0 (mostOf (ruleOf kind))
 sound kind room (c ∷ s) =
-    let f = upTo space s in
-    let r = ruleOf kind in
-    let P = Sound room (suc (length s)) (mostOf r) in
-    let none = none-sound room (suc (length s)) (mostOf r) in
-    let h : length f < suc (length s) = omega (arith, found-within space s 0 (omega arith)) in
-    either P (eqb c space)
-    (λ t. either P (isMark f (r .mark)) (λ m e. record { inside = h; digits = omega arith; fits = omega arith; small = omega arith })
-    (either P (areDigits f (r .fewest) (r .most)) (λ d. digits-sound room (suc (length s)) (r .most) (r .greatest) f (r .bytes) h (at-most f (r .fewest) (r .most) d))
-    none))
-    none
+    let n = suc (length s) in
+    either (Sound room n (mostOf (ruleOf kind))) (eqb c space)
+    (λ t. ruled-sound (ruleOf kind) room n (upTo space s) (omega (arith, found-within space s 0 (omega arith))))
+    (none-sound room n (mostOf (ruleOf kind)))
 
 pub within : (kind room : ℕ) (s : List ℕ) {x : Field} → x ≡ fieldAt kind room s → x .good ≡ true → Within room (length s) (mostOf (ruleOf kind)) x
 within kind room s e g = (rw (← e) at (sound kind room s)) g

@@ -1,6 +1,6 @@
--- What a caller may count on: where a form is good, no number is more than its kind allows (a byte is below 256, a length or a count of bytes at most 128); and how long its arrays are.
+-- What a caller may count on: where a form is good, no number is more than its kind allows (a byte is below 256, a length or a count of bytes at most 128); and its bytes are 256.
 use mathlib.Core.Path.{_≡_, refl, sym, ap, _∙_}
-use mathlib.Core.Bool.{Bool, true, true≢false}
+use mathlib.Core.Bool.{true, true≢false}
 use Prim.Native.Nat.{ℕ, zero, suc, _+_, _-_, _*_, _<_, _≤_}
 use mathlib.Core.List.{List, [], _∷_}
 use native.Mathlib.Omega.{arith}
@@ -9,7 +9,7 @@ use lib.Seq.{getD-set-same, getD-set-other, length-take-le}
 use borrow.Rule.Slice.PartMut.{same-len-mid}
 use Rattle.hexline.specs.Digit.{pairs}
 use Rattle.fields.specs.Field.{ruleOf, fieldAt}
-use Rattle.fields.specs.Form.{mostFields, mostBytes, kindsOf, Held, nothingHeld, walk, formOf}
+use Rattle.fields.specs.Form.{mostBytes, kindsOf, Held, nothingHeld, walk, formOf}
 use Rattle.fields.specs.declared.Form.{Form}
 use Rattle.fields.proofs.FieldLaws.{either, mostOf, within}
 use Rattle.fields.proofs.FormLaws.{kinds-most, kinds-at}
@@ -52,12 +52,7 @@ form-most row text i e l =
     let z : 0 + i ≡ i = omega arith in
     rw (z, kinds-at row i l, ← e) at (small (kindsOf row) text 0 i nothingHeld l (omega (arith, kinds-most row)))
 
--- ---- the lengths of the arrays
-
-pub record Sized (numbers : List ℕ) (marked : List Bool) (bytes : List ℕ) : Type 0 where
-  pub fields : length numbers ≡ mostFields
-  pub marks : length marked ≡ mostFields
-  pub room : length bytes ≡ mostBytes
+-- ---- the bytes are always 256
 
 length-pairs : (s : List ℕ) (n : ℕ) → length s ≡ n * 2 → length (pairs s) ≡ n
 unfolding pairs
@@ -66,26 +61,21 @@ length-pairs (a ∷ []) n e = absurd (omega arith)
 length-pairs (a ∷ b ∷ s) zero e = absurd (omega arith)
 length-pairs (a ∷ b ∷ s) (suc n) e = ap suc (length-pairs s n (omega arith))
 
-sized : (kinds text : List ℕ) (i : ℕ) (h : Held) → h .used ≤ mostBytes → Sized (h .numbers) (h .marked) (h .bytes)
-    → Sized (walk kinds text i h .numbers) (walk kinds text i h .marked) (walk kinds text i h .bytes)
+whole : (kinds text : List ℕ) (i : ℕ) (h : Held) → h .used ≤ mostBytes → length (h .bytes) ≡ mostBytes → length (walk kinds text i h .bytes) ≡ mostBytes
 unfolding walk
-sized [] text i h u s = s
-sized (kind ∷ kinds) text i h u s =
+whole [] text i h u s = s
+whole (kind ∷ kinds) text i h u s =
     let x = fieldAt kind (mostBytes - h .used) text in
-    let content = pairs (take (x .size * 2) (drop 1 text)) in
+    let digits = take (x .size * 2) (drop 1 text) in
     let part = drop (h .used) (h .bytes) in
-    either (λ (f : Form). Sized (f .numbers) (f .marked) (f .bytes)) (x .good)
+    either (λ (f : Form). length (f .bytes) ≡ mostBytes) (x .good)
     (λ g.
     let w = within kind (mostBytes - h .used) text refl g in
-    let n : length content ≡ x .size = length-pairs (take (x .size * 2) (drop 1 text)) (x .size) (length-take-le (x .size * 2) (drop 1 text) (omega (arith, length-drop 1 text))) in
-    let m : length (take (x .size) part) ≡ x .size = length-take-le (x .size) part (omega (arith, length-drop (h .used) (h .bytes))) in
-    sized kinds _ (i + 1) _ (omega arith) (record {
-      fields = simp length-set (s .fields);
-      marks = simp length-set (s .marks);
-      room = same-len-mid (h .used) (x .size) (h .bytes) content (n ∙ sym m) ∙ s .room;
-    }))
+    let n = length-pairs digits (x .size) (length-take-le (x .size * 2) (drop 1 text) (omega (arith, length-drop 1 text))) in
+    let m = length-take-le (x .size) part (omega (arith, length-drop (h .used) (h .bytes))) in
+    whole kinds _ (i + 1) _ (omega arith) (same-len-mid (h .used) (x .size) (h .bytes) (pairs digits) (n ∙ sym m) ∙ s))
     s
 
-pub form-sized : (row text : List ℕ) {x : Form} → x ≡ formOf row text → Sized (x .numbers) (x .marked) (x .bytes)
+pub form-bytes : (row text : List ℕ) {x : Form} → x ≡ formOf row text → length (x .bytes) ≡ mostBytes
 unfolding formOf
-form-sized row text e = rw e (sized (kindsOf row) text 0 nothingHeld (omega arith) (record { fields = refl; marks = refl; room = refl }))
+form-bytes row text e = rw e (whole (kindsOf row) text 0 nothingHeld (omega arith) refl)

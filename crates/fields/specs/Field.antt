@@ -28,30 +28,47 @@ noBytesMark = 45
 abbrev pub noMark : ℕ
 noMark = space
 
+-- the most digits of a number, of a flag, and of up to 128 bytes
 abbrev pub mostDigits : ℕ
 mostDigits = 16
+
+abbrev pub flagDigits : ℕ
+flagDigits = 1
+
+abbrev pub mostByteDigits : ℕ
+mostByteDigits = 256
+
+-- the greatest byte, flag, length of an output and number
+abbrev pub mostByte : ℕ
+mostByte = 255
+
+abbrev pub mostFlag : ℕ
+mostFlag = 1
+
+abbrev pub mostLength : ℕ
+mostLength = 128
 
 abbrev pub mostNumber : ℕ
 mostNumber = 18446744073709551615
 
--- the mark, or 1 to `most` digits of a number up to the greatest
+-- a number: the mark, or 1 to `most` digits that make no more than the greatest
 abbrev pub numberRule : ℕ → ℕ → ℕ → Rule
 numberRule mark most greatest = record { mark = mark; fewest = 1; most = most; bytes = false; greatest = greatest }
 
--- the mark, or digits of bytes, from the fewest to the most
+-- bytes: the mark, or two digits for each byte, from the fewest digits to the most
 abbrev pub bytesRule : ℕ → ℕ → ℕ → Rule
 bytesRule mark fewest most = record { mark = mark; fewest = fewest; most = most; bytes = true; greatest = 0 }
 
--- NUMBER, and whatever is no other kind, is the last
+-- each kind's rule; NUMBER is the last
 unfoldable pub ruleOf : ℕ → Rule
 ruleOf kind =
     cond (leb EXACTLY kind) (bytesRule noMark ((kind - EXACTLY) * 2) ((kind - EXACTLY) * 2))
-    (cond (eqb kind BYTE) (numberRule noMark mostDigits 255)
+    (cond (eqb kind BYTE) (numberRule noMark mostDigits mostByte)
     (cond (eqb kind NUMBER-OR-DEFAULT) (numberRule defaultMark mostDigits mostNumber)
     (cond (eqb kind DELAY-OR-MEASURED) (numberRule measuredMark mostDigits mostNumber)
-    (cond (eqb kind FLAG) (numberRule noMark 1 1)
-    (cond (eqb kind LENGTH) (numberRule noMark mostDigits 128)
-    (cond (eqb kind BYTES) (bytesRule noBytesMark 2 256)
+    (cond (eqb kind FLAG) (numberRule noMark flagDigits mostFlag)
+    (cond (eqb kind LENGTH) (numberRule noMark mostDigits mostLength)
+    (cond (eqb kind BYTES) (bytesRule noBytesMark 2 mostByteDigits)
     (numberRule noMark mostDigits mostNumber)))))))
 
 -- ---- what a field says
@@ -64,7 +81,7 @@ isMark f m = cond (eqb (length f) 1) (eqb (getD f 0 0) m) false
 unfoldable pub areDigits : List ℕ → ℕ → ℕ → Bool
 areDigits f fewest most = cond (ltb (length f) fewest) false (cond (ltb most (length f)) false (allDigits f))
 
--- what is not of its kind
+-- what is not of its kind; the mark
 abbrev pub noField : Field
 noField = record { good = false; marked = false; number = 0; size = 0; width = 0 }
 
@@ -76,15 +93,17 @@ unfoldable pub bytesField : ℕ → ℕ → Field
 bytesField width room =
     cond (eqb (width % 2) 0) (record { good = leb (width / 2) room; marked = false; number = width / 2; size = width / 2; width = width }) noField
 
+-- digits as a number
 abbrev pub numberField : ℕ → List ℕ → Field
 numberField greatest f = record { good = leb (worth 0 f) greatest; marked = false; number = worth 0 f; size = 0; width = length f }
 
+-- the field f by a rule, with so much room for its bytes
 abbrev pub ruledField : Rule → ℕ → List ℕ → Field
 ruledField rule room f =
     cond (isMark f (rule .mark)) (markField (length f))
     (cond (areDigits f (rule .fewest) (rule .most)) (cond (rule .bytes) (bytesField (length f) room) (numberField (rule .greatest) f)) noField)
 
--- the field f by its kind, with so much room for its bytes
+-- by its kind
 unfoldable pub fieldOf : ℕ → ℕ → List ℕ → Field
 fieldOf kind room f = ruledField (ruleOf kind) room f
 

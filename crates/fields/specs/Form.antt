@@ -1,6 +1,6 @@
 -- What the fields of a line say, by the row of their kinds.
-use Prim.Native.Nat.{ℕ, zero, suc, _+_, _*_, _-_}
-use mathlib.Core.Bool.{Bool, true, false, cond}
+use Prim.Native.Nat.{ℕ, suc, _+_, _*_, _-_}
+use mathlib.Core.Bool.{Bool, false, cond}
 use mathlib.Core.List.{List, [], _∷_, _++_}
 use lib.ListN.{length, set, take, drop, replicate}
 use lib.Dec.{eqb}
@@ -22,7 +22,7 @@ mostBytes = 256
 abbrev pub kindsOf : List ℕ → List ℕ
 kindsOf row = upTo END (take mostFields row)
 
--- what is read so far: the fields' numbers and marks, and the bytes of all of them
+-- what is read so far: the fields' numbers and marks, and the bytes of all of them, of which so many are used
 pub record Held : Type 0 where
   pub numbers : List ℕ
   pub marked : List Bool
@@ -32,7 +32,7 @@ pub record Held : Type 0 where
 abbrev pub nothingHeld : Held
 nothingHeld = record { numbers = replicate mostFields 0; marked = replicate mostFields false; bytes = replicate mostBytes 0; used = 0 }
 
--- a field more, the bytes that it is being `content`
+-- with field i, whose bytes are `content`, put after those that are used
 abbrev pub stored : ℕ → Field → List ℕ → Held → Held
 stored i field content h = record {
   numbers = set (h .numbers) i (field .number);
@@ -44,7 +44,7 @@ stored i field content h = record {
 abbrev pub formWith : Bool → Held → Form
 formWith good h = record { good = good; numbers = h .numbers; marked = h .marked; bytes = h .bytes }
 
--- the text from field i on by the kinds from there on: a space and a field for each of them, and nothing more
+-- the text from field i on, by the kinds from there on: a space and a field for each kind, and nothing more; it stops at the first that is not so
 unfoldable pub walk : List ℕ → List ℕ → ℕ → Held → Form
 walk [] text i h = formWith (eqb (length text) 0) h
 walk (kind ∷ kinds) text i h =
@@ -52,5 +52,6 @@ walk (kind ∷ kinds) text i h =
     let content = pairs (take (field .size * 2) (drop 1 text)) in
     cond (field .good) (walk kinds (drop (suc (field .width)) text) (i + 1) (stored i field content h)) (formWith false h)
 
+-- what `read` answers
 unfoldable pub formOf : List ℕ → List ℕ → Form
 formOf row text = walk (kindsOf row) text 0 nothingHeld

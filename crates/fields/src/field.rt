@@ -1,7 +1,6 @@
 // One field of a line: what its kind wants, and what the field says.
 ghost use mathlib.Core.Path.{_≡_};
-ghost use Prim.Native.Nat.{_≤_};
-ghost use lib.ListN.{length, drop};
+ghost use lib.ListN.{drop};
 ghost use Rattle.fields.specs.Field.{numberRule, bytesRule, ruleOf, isMark, areDigits, noField, bytesField, fieldOf, fieldAt};
 use crate::kind;
 use hexline::digits;
@@ -9,14 +8,12 @@ use hexline::searching;
 
 const SPACE: u8 = b' ';
 
-// The most digits of a number, of a flag, and of up to 128 bytes; the digits of one byte.
+// The most digits of a number, of a flag, and of up to 128 bytes.
 const MOST_DIGITS: usize = 16;
 
 const FLAG_DIGITS: usize = 1;
 
 const MOST_BYTE_DIGITS: usize = 256;
-
-const BYTE_DIGITS: usize = 2;
 
 // The greatest byte, flag, length of an output and number.
 const MOST_BYTE: u64 = 255;
@@ -85,7 +82,7 @@ fn rule_of(code: u8) -> Rule
     ensures { λ r. ⌜ r ≡ ruleOf code ⌝ }
 {
     if kind::EXACTLY <= code {
-        let n = (code - kind::EXACTLY) as usize * BYTE_DIGITS;
+        let n = (code - kind::EXACTLY) as usize * digits::DIGITS;
         return bytes_rule(NO_MARK, n, n);
     }
     match code {
@@ -94,7 +91,7 @@ fn rule_of(code: u8) -> Rule
         kind::DELAY_OR_MEASURED => number_rule(MEASURED, MOST_DIGITS, MOST_NUMBER),
         kind::FLAG => number_rule(NO_MARK, FLAG_DIGITS, MOST_FLAG),
         kind::LENGTH => number_rule(NO_MARK, MOST_DIGITS, MOST_LENGTH),
-        kind::BYTES => bytes_rule(NO_BYTES, BYTE_DIGITS, MOST_BYTE_DIGITS),
+        kind::BYTES => bytes_rule(NO_BYTES, digits::DIGITS, MOST_BYTE_DIGITS),
         _ => number_rule(NO_MARK, MOST_DIGITS, MOST_NUMBER),
     }
 }
@@ -139,10 +136,10 @@ fn none() -> Field
 fn as_bytes(width: usize, room: usize) -> Field
     ensures { λ r. ⌜ r ≡ bytesField width room ⌝ }
 {
-    if width % BYTE_DIGITS != 0 {
+    if width % digits::DIGITS != 0 {
         return none();
     }
-    let size = width / BYTE_DIGITS;
+    let size = width / digits::DIGITS;
     Field {
         good: size <= room,
         marked: false,

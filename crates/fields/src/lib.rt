@@ -12,8 +12,6 @@ const FIELDS: usize = 14;
 
 const ROOM: usize = 256;
 
-const BYTE_DIGITS: usize = 2;
-
 // What the fields of a line say: each field's number, or how many bytes it has; whether it is its kind's mark; and the bytes of all, one after the other.
 pub struct Form {
     pub good: bool,
@@ -48,7 +46,7 @@ pub fn read(row: [u8; 15], rest: &[u8]) -> Form
         numbers[i] = next.number;
         marked[i] = next.marked;
         digits::bytes(
-            &rest[start..start + size * BYTE_DIGITS],
+            &rest[start..start + size * digits::DIGITS],
             &mut bytes[used..used + size],
         );
         used += size;

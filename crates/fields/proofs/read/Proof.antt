@@ -9,7 +9,7 @@ use borrow.Rule.Slice.PartMut.{same-len-mid}
 use borrow.Author.Tests.{not-true, not-false}
 use borrow.Author.Needs.{needs}
 use Rattle.fields.specs.Field.{ruleOf}
-use Rattle.fields.specs.Form.{mostFields, mostBytes, kindsOf, Held, nothingHeld, walk, formOf}
+use Rattle.fields.specs.Form.{mostFields, mostBytes, kindsOf, Held, walk, formOf}
 use Rattle.fields.proofs.FieldLaws.{mostOf, Within, within}
 use Rattle.fields.proofs.FormLaws.{kinds-most, walk-all, walk-end, walk-bad, walk-more}
 use Rattle.fields.proofs.read.Statement.{statement}
@@ -38,9 +38,6 @@ known : (c : tie.Else1 Inv-loop μ-loop) →
     let l = c .before .before .before .before in
     Within (mostBytes - l .loop .used) (length (rest l) - l .loop .at) (mostOf (ruleOf (getD (row l) (l .loop .i) 0))) (c .before .before .at .result)
 known c = rw (← length-drop) (within _ _ _ (c .before .before .at .ensures) (not-false _ (c .if1 .left)))
-
-slice-aggregate-found : tie.Need-slice-aggregate-found Inv-loop μ-loop
-slice-aggregate-found c = sym (length-take-le 14 (c .before .before .args .t1) (omega arith))
 
 loop-holds : tie.Need-loop-holds Inv-loop μ-loop
 loop-holds c =
@@ -82,9 +79,6 @@ loop-again c =
       walk-more (row l) (rest l) (s .i) (s .at) (held l) (x .result) (omega arith) (x .ensures) (content .last .1 .0) (not-false _ (e .if1 .left)) (content .ensures) ∙ s .inv .7,
     )
 
-ended : tie.Need-returns-2 Inv-loop μ-loop
-ended c = let l = c .before in walk-end (row l) (rest l) (l .loop .i) (l .loop .at) (held l) (omega arith) ∙ l .loop .inv .7
-
 pub read-spec : {M : Type 1} → statement M
 read-spec =
     tie.close
@@ -92,7 +86,7 @@ read-spec =
     Inv-loop
     μ-loop
     (λ c. search needs)
-    slice-aggregate-found
+    (λ c. sym (length-take-le mostFields (c .before .before .args .t1) (omega arith)))
     (λ c κs. search needs)
     loop-holds
     (λ c. search needs)
@@ -119,4 +113,4 @@ read-spec =
     (λ c. search needs)
     loop-again
     (λ c. search needs)
-    ended)
+    (λ c. let l = c .before in walk-end (row l) (rest l) (l .loop .i) (l .loop .at) (held l) (omega arith) ∙ l .loop .inv .7))

@@ -5,17 +5,12 @@ use Rattle.fields.specs.Field.{areDigits}
 use Rattle.fields.proofs.field.are_digits.Statement.{statement}
 use Rattle.fields.proofs.field.are_digits.Tie as tie
 
-few : tie.Need-returns
-unfolding areDigits
-few c = rw (lt-ltb _ _ (c .if1 .taken))
-
-many : tie.Need-returns-2
-unfolding areDigits
-many c = rw (le-ltb _ _ (c .before .if1 .left), lt-ltb _ _ (c .if2 .taken))
-
-within : tie.Need-returns-3
-unfolding areDigits
-within c = rw (le-ltb _ _ (c .before .before .if1 .left), le-ltb _ _ (c .before .if2 .left)) (c .all .ensures)
-
 pub are-digits-spec : {M : Type 1} → statement M
-are-digits-spec = tie.close (tie.spec few many (λ c κs. search needs) within)
+unfolding areDigits
+are-digits-spec =
+    tie.close
+    (tie.spec
+    (λ c. rw (lt-ltb _ _ (c .if1 .taken)))
+    (λ c. rw (le-ltb _ _ (c .before .if1 .left), lt-ltb _ _ (c .if2 .taken)))
+    (λ c κs. search needs)
+    (λ c. rw (le-ltb _ _ (c .before .before .if1 .left), le-ltb _ _ (c .before .if2 .left)) (c .all .ensures)))

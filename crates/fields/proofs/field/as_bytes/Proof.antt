@@ -5,13 +5,11 @@ use Rattle.fields.specs.Field.{bytesField}
 use Rattle.fields.proofs.field.as_bytes.Statement.{statement}
 use Rattle.fields.proofs.field.as_bytes.Tie as tie
 
-odd : tie.Need-returns
-unfolding bytesField
-odd c = rw (ne-eqb _ _ (c .before .if1 .taken)) (c .none .ensures)
-
-even : tie.Need-returns-2
-unfolding bytesField
-even c = rw (eq-eqb _ _ (c .if1 .left))
-
 pub as-bytes-spec : {M : Type 1} → statement M
-as-bytes-spec = tie.close (tie.spec (λ c κs. search needs) odd even)
+unfolding bytesField
+as-bytes-spec =
+    tie.close
+    (tie.spec
+    (λ c κs. search needs)
+    (λ c. rw (ne-eqb _ _ (c .before .if1 .taken)) (c .none .ensures))
+    (λ c. rw (eq-eqb _ _ (c .if1 .left))))

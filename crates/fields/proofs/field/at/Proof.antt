@@ -11,14 +11,6 @@ use Rattle.fields.proofs.FieldLaws.{field-taken}
 use Rattle.fields.proofs.field.at.Statement.{statement}
 use Rattle.fields.proofs.field.at.Tie as tie
 
-ended : tie.Need-returns
-unfolding fieldAt
-ended c = rw (drop-of-length-le _ (c .before .if1 .taken)) (c .none .ensures)
-
-other : tie.Need-returns-2
-unfolding fieldAt
-other c = rw (drop-cons {A = ℕ} _ _ 0 (c .before .before .before .if1 .left), ne-eqb _ _ (c .before .if2 .taken)) (c .none2 .ensures)
-
 part-of-kind-end : tie.Need-part-of-kind-end
 part-of-kind-end c =
     let a = c .before .before .before .before .before .args in
@@ -32,14 +24,15 @@ field c =
     rw (drop-cons {A = ℕ} _ _ 0 (e .before .before .if1 .left), eq-eqb _ _ (e .if2 .left), ← field-taken _ _ _ (f .found .ensures)) (c .of-kind .ensures)
 
 pub at-spec : {M : Type 1} → statement M
+unfolding fieldAt
 at-spec =
     tie.close
     (tie.spec
     (λ c κs. search needs)
-    ended
+    (λ c. rw (drop-of-length-le _ (c .before .if1 .taken)) (c .none .ensures))
     (λ c. search needs)
     (λ c κs. search needs)
-    other
+    (λ c. rw (drop-cons {A = ℕ} _ _ 0 (c .before .before .before .if1 .left), ne-eqb _ _ (c .before .if2 .taken)) (c .none2 .ensures))
     (λ c. search needs)
     (λ c κs. search needs)
     (λ c. search needs)

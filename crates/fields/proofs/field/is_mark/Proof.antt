@@ -5,13 +5,11 @@ use Rattle.fields.specs.Field.{isMark}
 use Rattle.fields.proofs.field.is_mark.Statement.{statement}
 use Rattle.fields.proofs.field.is_mark.Tie as tie
 
-one : tie.Need-returns
-unfolding isMark
-one c = rw (eq-eqb _ _ (c .before .if1 .taken))
-
-other : tie.Need-returns-2
-unfolding isMark
-other c = rw (ne-eqb _ _ (c .if1 .left))
-
 pub is-mark-spec : {M : Type 1} → statement M
-is-mark-spec = tie.close (tie.spec (λ c. search needs) one other)
+unfolding isMark
+is-mark-spec =
+    tie.close
+    (tie.spec
+    (λ c. search needs)
+    (λ c. rw (eq-eqb _ _ (c .before .if1 .taken)))
+    (λ c. rw (ne-eqb _ _ (c .if1 .left))))

@@ -6,34 +6,6 @@ use Rattle.fields.specs.Field.{ruleOf}
 use Rattle.fields.proofs.field.rule_of.Statement.{statement}
 use Rattle.fields.proofs.field.rule_of.Tie as tie
 
-exactly : tie.Need-returns
-unfolding ruleOf
-exactly c = rw (le-leb _ _ (c .before .if1 .taken)) (c .bytes-rule .ensures)
-
-byte : tie.Need-returns-2
-unfolding ruleOf
-byte c = c .number-rule .ensures ∙ ap ruleOf (sym (c .before .match .keys1))
-
-number-or-default : tie.Need-returns-3
-unfolding ruleOf
-number-or-default c = c .number-rule2 .ensures ∙ ap ruleOf (sym (c .before .match .keys2))
-
-delay-or-measured : tie.Need-returns-4
-unfolding ruleOf
-delay-or-measured c = c .number-rule3 .ensures ∙ ap ruleOf (sym (c .before .match .keys3))
-
-flag : tie.Need-returns-5
-unfolding ruleOf
-flag c = c .number-rule4 .ensures ∙ ap ruleOf (sym (c .before .match .keys4))
-
-length : tie.Need-returns-6
-unfolding ruleOf
-length c = c .number-rule5 .ensures ∙ ap ruleOf (sym (c .before .match .keys5))
-
-bytes : tie.Need-returns-7
-unfolding ruleOf
-bytes c = c .bytes-rule2 .ensures ∙ ap ruleOf (sym (c .before .match .keys6))
-
 number : tie.Need-returns-8
 unfolding ruleOf
 number c =
@@ -41,13 +13,14 @@ number c =
     rw (lt-leb _ _ (c .before .before .if1 .left), ne-eqb _ _ (n .0 .0 .0 .0 .0 .1), ne-eqb _ _ (n .0 .0 .0 .0 .1), ne-eqb _ _ (n .0 .0 .0 .1), ne-eqb _ _ (n .0 .0 .1), ne-eqb _ _ (n .0 .1), ne-eqb _ _ (n .1)) (c .number-rule6 .ensures)
 
 pub rule-of-spec : {M : Type 1} → statement M
+unfolding ruleOf
 rule-of-spec =
     tie.close
     (tie.spec
     (λ c. search needs)
     (λ c. search needs)
     (λ c κs. search needs)
-    exactly
+    (λ c. rw (le-leb _ _ (c .before .if1 .taken)) (c .bytes-rule .ensures))
     (λ c κs. search needs)
     (λ c κs. search needs)
     (λ c κs. search needs)
@@ -55,10 +28,10 @@ rule-of-spec =
     (λ c κs. search needs)
     (λ c κs. search needs)
     (λ c κs. search needs)
-    byte
-    number-or-default
-    delay-or-measured
-    flag
-    length
-    bytes
+    (λ c. c .number-rule .ensures ∙ ap ruleOf (sym (c .before .match .keys1)))
+    (λ c. c .number-rule2 .ensures ∙ ap ruleOf (sym (c .before .match .keys2)))
+    (λ c. c .number-rule3 .ensures ∙ ap ruleOf (sym (c .before .match .keys3)))
+    (λ c. c .number-rule4 .ensures ∙ ap ruleOf (sym (c .before .match .keys4)))
+    (λ c. c .number-rule5 .ensures ∙ ap ruleOf (sym (c .before .match .keys5)))
+    (λ c. c .bytes-rule2 .ensures ∙ ap ruleOf (sym (c .before .match .keys6)))
     number)
