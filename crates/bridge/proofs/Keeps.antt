@@ -10,7 +10,7 @@ use lib.ListN.{length, set, replicate, length-set}
 use lib.Pow.{pow-pos}
 use Rattle.times.specs.Times.{circle}
 use Rattle.times.specs.declared.LocalTime.{LocalTime}
-use Rattle.relay.specs.Sent.{longestElapsed}
+use Rattle.line.specs.Sent.{longestElapsed}
 use Rattle.choice.specs.declared.Precedence.{Precedence}
 use Rattle.frame.specs.Frame.{frameLength}
 use Rattle.frame.specs.Read.{readOf}

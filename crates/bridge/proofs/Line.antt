@@ -1,5 +1,5 @@
 -- Demand 3 on the frame: where Send answers 0, the ten bytes of grandTime that it wrote lie less than 17 U from the exact line
--- through the two kept samples of the chosen clock, read at t less backTime, plus backTime, across the wrap.
+-- through the oldest and the newest kept sample of the chosen clock, read at t less backTime, plus backTime, across the wrap.
 use mathlib.Core.Path.{_≡_, refl, sym, ap, _∙_, subst}
 use mathlib.Core.Bool.{Bool, true, false, cond}
 use mathlib.Core.List.{List}
@@ -10,11 +10,11 @@ use lib.IntN.{pos}
 use lib.ListN.{length, drop}
 use Rattle.numbers.specs.Digits.{numberAt}
 use Rattle.times.specs.Times.{sinceOf, units}
-use Rattle.samples.specs.Keep.{LawfulSamples}
+use Rattle.samples.specs.Keep.{endsOf}
 use Rattle.samples.specs.declared.Sample.{Sample}
-use Rattle.samples.specs.declared.Samples.the-variants.{Two}
-use Rattle.relay.specs.Sent.{reachOf}
-use Rattle.relay.specs.Line.{NearLine}
+use Rattle.samples.specs.declared.Ends.the-variants.{Both}
+use Rattle.line.specs.Sent.{reachOf}
+use Rattle.line.specs.Line.{NearLine}
 use Rattle.frame.specs.Frame.{frameLength}
 use Rattle.frame.specs.Write.{bytesOf}
 use Rattle.frame.specs.declared.Fields.{Fields}
@@ -26,8 +26,7 @@ use Rattle.bridge.specs.State.{Lawful, answers}
 use Rattle.bridge.specs.Chosen.{chosenOf}
 use Rattle.bridge.specs.Send.{chosenSamples, composedOf, usedOf, sendOf, filledBy, sendBytes}
 use Rattle.bridge.specs.declared.Bridge.{Bridge}
-use Rattle.relay.proofs.SentLaws.{sent-range}
-use Rattle.relay.proofs.Bound.{sent-near}
+use Rattle.line.proofs.SentLaws.{sent-near}
 use Rattle.frame.proofs.Trip.{grand-bytes, count-byte}
 use Rattle.port.proofs.PortLaws.{ReadOff, sending-read-off}
 use Rattle.table.proofs.TableLaws.{chosen-lawful}
@@ -39,11 +38,11 @@ grandStart = 32
 abbrev pub grandBytes : ℕ
 grandBytes = 10
 
--- the two kept samples of the chosen clock, and that the grand time in these bytes lies near the line through them
+-- the oldest and the newest kept sample of the chosen clock, and that the grand time in these bytes lies near the line through them
 pub record OnLine (b : Bridge) (t : ℕ) (bytes : List ℕ) : Type 0 where
   pub older : Sample
   pub newer : Sample
-  pub kept : chosenSamples b ≡ Two older newer
+  pub kept : endsOf (chosenSamples b) ≡ Both older newer
   pub near : NearLine older newer (pos (numberAt bytes grandStart grandBytes)) (reachOf (sinceOf (record { 0 = t }) (newer .local)) (b .back)) (b .back)
 
 -- what a send that answers 0 wrote: a frame that was composed, with the port's next frameCount
@@ -81,18 +80,16 @@ sent-frame-near b port t out h e =
     let w = wrote b port t out e in
     let r = w .read in
     let f = w .fields in
-    let range = sent-range (Two (r .older) (r .newer)) (record { 0 = t }) (b .back) (f .grand) (f .error) (r .sent) in
-    let lawful : LawfulSamples (Two (r .older) (r .newer)) =
-    subst LawfulSamples (r .kept) (chosen-lawful (chosenOf b) (b .clock) (b .ports) (h .clock-lawful) (h .ports-lawful)) in
+    let lawful = chosen-lawful (chosenOf b) (b .clock) (b .ports) (h .clock-lawful) (h .ports-lawful) in
     let number : units (f .grand) ≡ numberAt (sendBytes b port t out) grandStart grandBytes =
-    sym (ap (λ (l : List ℕ). numberAt l grandStart grandBytes) (w .bytes) ∙ grand-bytes f (drop frameLength out) range) in
+    sym (ap (λ (l : List ℕ). numberAt l grandStart grandBytes) (w .bytes) ∙ grand-bytes f (drop frameLength out) (r .range)) in
     record {
-      older = r .older;
-      newer = r .newer;
+      older = r .oldest;
+      newer = r .newest;
       kept = r .kept;
       near =
-          subst (λ (n : ℕ). NearLine (r .older) (r .newer) (pos n) (reachOf (sinceOf (record { 0 = t }) (r .newer .local)) (b .back)) (b .back)) number
-          (sent-near (r .older) (r .newer) (record { 0 = t }) (b .back) (f .grand) (f .error) lawful (h .back-small) (r .sent) .0);
+          subst (λ (n : ℕ). NearLine (r .oldest) (r .newest) (pos n) (reachOf (sinceOf (record { 0 = t }) (r .newest .local)) (b .back)) (b .back)) number
+          (sent-near (chosenSamples b) (record { 0 = t }) (b .back) (f .grand) (f .error) r lawful (h .back-small));
     }
 
 -- byte 30 of a frame that was sent is the port's next frameCount

@@ -8,9 +8,9 @@ use lib.Count.{ones}
 use lib.Dec.{eqb, leb}
 use lib.ListN.{length, drop}
 use Rattle.times.specs.Times.{circle}
-use Rattle.relay.specs.declared.Drift.{Drift}
-use Rattle.relay.specs.declared.Drift.the-variants as Drifts
-use Rattle.relay.specs.Drift.{driftOf}
+use Rattle.line.specs.declared.Drift.{Drift}
+use Rattle.line.specs.declared.Drift.the-variants as Drifts
+use Rattle.line.specs.Drift.{driftOf}
 use Rattle.choice.specs.declared.Precedence.{Precedence}
 use Rattle.frame.specs.Frame.{frameLength}
 use Rattle.frame.specs.Read.{readOf}

@@ -2,9 +2,9 @@
 use mathlib.Core.Bool.{cond}
 use Prim.Native.Nat.{ℕ}
 use lib.Dec.{ltb}
-use Rattle.relay.specs.Drift.{driftOf}
-use Rattle.relay.specs.declared.Drift.{Drift}
-use Rattle.relay.specs.declared.Drift.the-variants.{Refused}
+use Rattle.line.specs.Drift.{driftOf}
+use Rattle.line.specs.declared.Drift.{Drift}
+use Rattle.line.specs.declared.Drift.the-variants.{Refused}
 use Rattle.table.specs.Table.{samplesAt}
 use Rattle.bridge.specs.declared.Bridge.{Bridge}
 

@@ -5,7 +5,7 @@ use Prim.Native.Nat.{ℕ, _-_}
 use lib.Dec.{eqb}
 use lib.ListN.{getD}
 use Rattle.times.specs.declared.LocalTime.{LocalTime}
-use Rattle.relay.specs.declared.DelaySetting.{DelaySetting}
+use Rattle.delay.specs.declared.DelaySetting.{DelaySetting}
 use Rattle.choice.specs.Choose.{chosenHop}
 use Rattle.frame.specs.Read.{readOf}
 use Rattle.frame.specs.declared.Fields.{Fields}

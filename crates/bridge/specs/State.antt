@@ -3,7 +3,7 @@ use mathlib.Core.Path.{_≡_}
 use mathlib.Core.List.{List}
 use Prim.Native.Nat.{ℕ, _^_, _<_, _≤_}
 use lib.ListN.{length, set}
-use Rattle.relay.specs.Sent.{longestElapsed}
+use Rattle.line.specs.Sent.{longestElapsed}
 use Rattle.port.specs.Lawful.{LawfulPort, LawfulClock}
 use Rattle.port.specs.declared.Port.{Port}
 use Rattle.port.specs.declared.OwnClock.{OwnClock}

@@ -19,13 +19,13 @@ use frame::Fields;
 use frame::Mac;
 use frame::Reading;
 use frame::read;
+use line::Drift;
+use line::ppm;
 use port::OwnClock;
 use port::Port;
 use port::Sending;
 use port::Setting;
 use port::record;
-use relay::Drift;
-use relay::drifting;
 use table::arguments;
 use table::records;
 use times::GrandTime;
@@ -166,7 +166,12 @@ pub fn own_clock(b: Bridge, count: u8, seconds: u64, fraction: u64, at: u64) -> 
         };
     }
     let clock = b.clock;
-    let reading = port::own_clock::own_clock(clock, count, GrandTime(seconds, fraction), LocalTime(at));
+    let reading = port::own_clock::own_clock(
+        clock,
+        count,
+        GrandTime(seconds, fraction),
+        LocalTime(at),
+    );
     let after = reading.clock;
     let mut next = b;
     next.clock = after;
@@ -312,5 +317,5 @@ pub fn drift(b: Bridge, port: u8) -> Drift
     }
     let clock = b.clock;
     let ports = b.ports;
-    drifting::drift(records::samples_at(port, clock, ports))
+    ppm::drift(records::samples_at(port, clock, ports))
 }

@@ -10,7 +10,7 @@ use mir.Syntax.{w64}
 use mir.Val.{SFits, toZ, ofZ}
 use mir.ValLaws.{toZ-ofZ}
 use Rattle.numbers.specs.Whole.{floorDiv}
-use Rattle.numbers.proofs.Ring.{natAbs-*, natAbs-+, natAbs-neg, mag-le, minus-is, sub-lt, same, of-pos}
+use Rattle.numbers.proofs.Ring.{natAbs-*, natAbs-+, natAbs-neg, mag-le, minus-is, sub-lt}
 
 -- a number read back from its bits
 pub back : (z : ℤ) → SFits w64 z → toZ w64 (ofZ w64 z) ≡ z
@@ -64,13 +64,13 @@ pub minus-fits : (a b : ℕ) → a < 2 ^ 63 → b < 2 ^ 63 → SFits w64 (pos a 
 minus-fits a b ha hb = sfits (omega (arith, mag-le (pos a -ℤ pos b), subst (λ (y : ℤ). natAbs y < 2 ^ 63) (sym (minus-is a b)) (sub-lt a b (2 ^ 63) (omega arith) (omega arith))))
 
 -- a natural moved by the size of x, down where x is below zero and up where not, is moved by x
-pub moved-down : (a n g : ℕ) (x : ℤ) → ltZ x (pos 0) ≡ true → n ≡ natAbs x → a + n ≡ g → pos a ≡ pos g +ℤ x
-moved-down a n g (pos k) t e h = absurd (true≢false (sym t ∙ le-ltb k 0 (omega arith)))
-moved-down a n g (negsuc k) t e h = of-pos a ∙ same a 0 g (suc k) (omega arith)
+pub moved-down : (g n : ℕ) (x : ℤ) → ltZ x (pos 0) ≡ true → n ≡ natAbs x → pos g -ℤ pos n ≡ pos g +ℤ x
+moved-down g n (pos k) t e = absurd (true≢false (sym t ∙ le-ltb k 0 (omega arith)))
+moved-down g n (negsuc k) t e = rw e
 
-pub moved-up : (a n g : ℕ) (x : ℤ) → ltZ x (pos 0) ≡ false → n ≡ natAbs x → a ≡ g + n → pos a ≡ pos g +ℤ x
-moved-up a n g (pos k) t e h = ap pos (omega arith)
-moved-up a n g (negsuc k) t e h = absurd (true≢false t)
+pub moved-up : (g n : ℕ) (x : ℤ) → ltZ x (pos 0) ≡ false → n ≡ natAbs x → pos (g + n) ≡ pos g +ℤ x
+moved-up g n (pos k) t e = rw e
+moved-up g n (negsuc k) t e = absurd (true≢false t)
 
 -- a signed result of a call, as the next place reads it
 pub got : {z y : ℤ} → mag z < 2 ^ 63 → z ≡ y → toZ w64 (ofZ w64 z) ≡ y

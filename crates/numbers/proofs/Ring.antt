@@ -4,10 +4,9 @@ use Prim.Native.Nat.{ℕ, zero, suc, _+_, _-_, _*_, _<_, _≤_}
 use native.Mathlib.Nat.{sub-add-cancel, lt-of-not-le}
 use native.Mathlib.Decide.{decLe}
 use native.Mathlib.Omega.{arith}
-use lib.Dec.{T}
 use borrow.Author.Tests.{le-ltb, lt-ltb}
 use lib.IntN.{ℤ, pos, negsuc, natAbs, negℤ, subℕ, _+ℤ_, _-ℤ_, _*ℤ_}
-use lib.Signed.{mag, nonNeg}
+use lib.Signed.{mag}
 
 pub natAbs-neg : (z : ℤ) → natAbs (negℤ z) ≡ natAbs z
 natAbs-neg (pos zero) = refl
@@ -118,6 +117,10 @@ pub minus-is : (a b : ℕ) → pos a -ℤ pos b ≡ subℕ a b
 minus-is a zero = of-pos (a + 0) ∙ same (a + 0) 0 a 0 (omega arith)
 minus-is a (suc b) = refl
 
+-- what is to be added to a to give b
+pub minus-pos : (a b n : ℕ) → a + n ≡ b → pos n ≡ pos b -ℤ pos a
+minus-pos a b n e = of-pos n ∙ same n 0 b a (omega arith) ∙ sym (minus-is b a)
+
 pub sub-lt : (a b m : ℕ) → a < b + m → b < a + m → natAbs (subℕ a b) < m
 sub-lt = diff-ind (λ a b. (m : ℕ) → a < b + m → b < a + m → natAbs (subℕ a b) < m)
     (λ n b m h k. rw (sub-pos n b) (omega arith))
@@ -127,11 +130,6 @@ pub sub-ge : (a b : ℕ) → b ≤ a + natAbs (subℕ a b)
 sub-ge = diff-ind (λ a b. b ≤ a + natAbs (subℕ a b))
     (λ n b. omega arith)
     (λ n a. rw (sub-neg n a) (omega arith))
-
--- a natural plus a whole number no larger is no less than 0
-pub plus-nonneg : (a : ℕ) (z : ℤ) → natAbs z ≤ a → T (nonNeg (pos a +ℤ z))
-plus-nonneg a (pos n) h = tt
-plus-nonneg a (negsuc n) h = rw (le-ltb a (suc n) h) tt
 
 pub sub-ge2 : (a b : ℕ) → a ≤ b + natAbs (subℕ a b)
 sub-ge2 = diff-ind (λ a b. a ≤ b + natAbs (subℕ a b))

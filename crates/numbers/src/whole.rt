@@ -38,6 +38,14 @@ pub fn at_least_zero(z: i64) -> u64
     if z < 0 { 0 } else { z as u64 }
 }
 
+// A number without a sign as one with a sign.
+pub fn from_unsigned(x: u64) -> i64
+    requires { ⌜ x < 2 ^ 63 ⌝ }
+    ensures { λ r. ⌜ r ≡ pos x ⌝ }
+{
+    x as i64
+}
+
 // a - b with its sign, for two numbers that have none.
 pub fn difference(a: u64, b: u64) -> i64
     requires { ⌜ (a < 2 ^ 63) × (b < 2 ^ 63) ⌝ }

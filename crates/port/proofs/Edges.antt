@@ -4,18 +4,19 @@ use mathlib.Core.Bool.{true}
 use mathlib.Core.List.{List, [], _∷_, map}
 use Prim.Native.Nat.{ℕ, _+_, _-_, _*_, _^_}
 use lib.IntN.{ℤ, pos, negℤ}
-use Rattle.times.specs.Times.{second, sinceOf, units, grandOf}
+use Rattle.times.specs.Times.{second, sinceOf, units, grandOf, momentOf}
 use Rattle.choice.specs.Hop.{lastHop, hopStep, hopOf}
 use Rattle.times.specs.declared.LocalTime.{LocalTime}
 use Rattle.samples.specs.Rate.{gainOf, rateOf, scaledOf}
-use Rattle.samples.specs.Keep.{keptOf}
+use Rattle.samples.specs.Keep.{keptOf, endsOf}
 use Rattle.samples.specs.declared.Sample.{Sample}
 use Rattle.samples.specs.declared.Samples.{Samples}
 use Rattle.samples.specs.declared.Samples.the-variants.{Empty, One, Two}
-use Rattle.relay.specs.Delay.{delayOf}
-use Rattle.relay.specs.Sent.{sentTime, sentOf, sentNo}
-use Rattle.relay.specs.declared.Sent.{Sent}
-use Rattle.relay.specs.declared.Sent.the-variants.{At, Few, Late, Beyond}
+use Rattle.delay.specs.Delay.{delayOf}
+use Rattle.line.specs.Line.{readingAt}
+use Rattle.line.specs.Sent.{sentTime, sentOf, sentNo}
+use Rattle.line.specs.declared.Sent.{Sent}
+use Rattle.line.specs.declared.Sent.the-variants.{At, Few, Late, Beyond}
 
 -- what the definitions give, and what the paper says
 pub record Row : Type 0 where
@@ -92,5 +93,5 @@ table =
     ∷ []
 
 pub claim : map (λ (r : Row). r .got) table ≡ map (λ (r : Row). r .says) table
-unfolding table sinceOf gainOf rateOf scaledOf delayOf hopStep hopOf keptOf sentTime sentOf
+unfolding table sinceOf momentOf gainOf rateOf scaledOf delayOf hopStep hopOf keptOf endsOf readingAt sentTime sentOf
 claim = refl

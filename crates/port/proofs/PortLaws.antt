@@ -14,18 +14,16 @@ use Rattle.times.specs.declared.LocalTime.{LocalTime}
 use Rattle.times.specs.declared.GrandTime.{GrandTime}
 use Rattle.samples.specs.Keep.{LawfulSamples, keptOf}
 use Rattle.samples.specs.Rate.{neighbourRateOf}
-use Rattle.samples.specs.declared.Sample.{Sample}
 use Rattle.samples.specs.declared.Samples.{Samples}
-use Rattle.samples.specs.declared.Samples.the-variants.{Empty, One, Two}
 use Rattle.samples.specs.declared.Pair.{Pair}
 use Rattle.samples.specs.declared.Pair.the-variants.{Unset, Set}
-use Rattle.relay.specs.Delay.{linkDelayOf}
-use Rattle.relay.specs.declared.Sent.{Sent}
-use Rattle.relay.specs.declared.Sent.the-variants.{At, Few, Late, Beyond}
-use Rattle.relay.specs.Sent.{sentOf}
-use Rattle.relay.specs.declared.DelaySetting.{DelaySetting}
-use Rattle.relay.specs.declared.Delay.{Delay}
-use Rattle.relay.specs.declared.Delay.the-variants.{Is, TooLong}
+use Rattle.delay.specs.Delay.{linkDelayOf}
+use Rattle.line.specs.declared.Sent.{Sent}
+use Rattle.line.specs.declared.Sent.the-variants.{At, Few, Late, Beyond}
+use Rattle.line.specs.Sent.{sentOf}
+use Rattle.delay.specs.declared.DelaySetting.{DelaySetting}
+use Rattle.delay.specs.declared.Delay.{Delay}
+use Rattle.delay.specs.declared.Delay.the-variants.{Is, TooLong}
 use Rattle.choice.specs.declared.Precedence.{Precedence}
 use Rattle.choice.specs.declared.Candidate.{Candidate}
 use Rattle.choice.specs.declared.Candidate.the-variants.{Nothing, Clock}
@@ -54,7 +52,7 @@ use Rattle.numbers.proofs.Places.{Bytes}
 use Rattle.numbers.proofs.Table.{held-at, held-parted}
 use Rattle.numbers.proofs.Branches.{if-true, if-false, if-when}
 use Rattle.samples.proofs.KeepLaws.{kept-lawful}
-use Rattle.relay.proofs.SentLaws.{sent-range}
+use Rattle.line.proofs.SentLaws.{Departure, departure}
 use Rattle.frame.proofs.FrameLaws.{accepted, reading, unrefused}
 
 -- ---- record
@@ -224,7 +222,7 @@ sending-written (Clock p h n) samples mac back t port room f ht l r e = by (sent
     by : (s : Sent) → sentOf samples t back ≡ s → sendingBy s mac p h t port ≡ Frame f → writeRefusal f room ≡ 0
     by (At g x) k e =
         let same : frameOf mac p h t g x port ≡ f = cc in
-        let w = sent-range samples t back g x k in
+        let w = departure samples t back g x k .range in
         subst (λ (f : Fields). writeRefusal f room ≡ 0) same
         (unrefused (frameOf mac p h t g x port) room
         (record { seconds = w .seconds; fraction = w .fraction; local = ht; tx = tx-small (port .echo) (l .echo); rx = rx-small (port .echo) (l .echo); room = r }))
@@ -251,29 +249,19 @@ sending-refused (Clock p h k) samples mac back t port n = by (sentOf samples t b
     by Beyond n = record { least = omega arith; greatest = omega arith; none = refl }
 
 -- a frame is sent only off two samples, with the grand time and errorTime read off them
-pub record ReadOff (samples : Samples) (t : LocalTime) (back : ℕ) (f : Fields) : Type 0 where
-  pub older : Sample
-  pub newer : Sample
-  pub kept : samples ≡ Two older newer
-  pub sent : sentOf (Two older newer) t back ≡ At (f .grand) (f .error)
+abbrev pub ReadOff : Samples → LocalTime → ℕ → Fields → Type 0
+ReadOff samples t back f = Departure samples t back (f .grand) (f .error)
 
 pub sending-read-off : (choice : Candidate) (samples : Samples) (mac : Mac) (back : ℕ) (t : LocalTime) (port : Port)
     → sendingNo (sendingOf choice samples mac back t port) ≡ 0
     → (f : Fields) × (sendingOf choice samples mac back t port ≡ Frame f) × (f .count ≡ port .next) × ReadOff samples t back f
-unfolding sendingOf sentOf
+unfolding sendingOf
 sending-read-off Nothing samples mac back t port e = absurd (omega arith)
-sending-read-off (Clock p h n) Empty mac back t port e = absurd (omega arith)
-sending-read-off (Clock p h n) (One a) mac back t port e = absurd (omega arith)
-sending-read-off (Clock p h n) (Two a b) mac back t port e = by (sentOf (Two a b) t back) refl e
+sending-read-off (Clock p h n) samples mac back t port e = by (sentOf samples t back) refl e
   where
-    by : (s : Sent) → sentOf (Two a b) t back ≡ s → sendingNo (sendingBy s mac p h t port) ≡ 0
-        → (f : Fields) × (sendingBy (sentOf (Two a b) t back) mac p h t port ≡ Frame f) × (f .count ≡ port .next) × ReadOff (Two a b) t back f
-    by (At g x) q e = (
-      frameOf mac p h t g x port,
-      ap (λ (s : Sent). sendingBy s mac p h t port) q,
-      refl,
-      record { older = a; newer = b; kept = refl; sent = q },
-    )
+    by : (s : Sent) → sentOf samples t back ≡ s → sendingNo (sendingBy s mac p h t port) ≡ 0
+        → (f : Fields) × (sendingBy (sentOf samples t back) mac p h t port ≡ Frame f) × (f .count ≡ port .next) × ReadOff samples t back f
+    by (At g x) q e = (frameOf mac p h t g x port, ap (λ (s : Sent). sendingBy s mac p h t port) q, refl, departure samples t back g x q)
     by Few q e = absurd (omega arith)
     by Late q e = absurd (omega arith)
     by Beyond q e = absurd (omega arith)

@@ -10,10 +10,10 @@ use Rattle.samples.specs.Rate.{neighbourRateOf}
 use Rattle.samples.specs.Keep.{keptOf}
 use Rattle.samples.specs.declared.Sample.{Sample}
 use Rattle.samples.specs.declared.Pair.the-variants.{Set}
-use Rattle.relay.specs.Delay.{linkDelayOf}
-use Rattle.relay.specs.declared.DelaySetting.{DelaySetting}
-use Rattle.relay.specs.declared.Delay.{Delay}
-use Rattle.relay.specs.declared.Delay.the-variants.{Is, TooLong}
+use Rattle.delay.specs.Delay.{linkDelayOf}
+use Rattle.delay.specs.declared.DelaySetting.{DelaySetting}
+use Rattle.delay.specs.declared.Delay.{Delay}
+use Rattle.delay.specs.declared.Delay.the-variants.{Is, TooLong}
 use Rattle.choice.specs.Precedence.{precedenceOf}
 use Rattle.choice.specs.declared.Precedence.{Precedence}
 use Rattle.choice.specs.declared.Announcement.{Announcement}

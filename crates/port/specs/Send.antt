@@ -8,9 +8,9 @@ use Rattle.times.specs.declared.ErrorTime.{ErrorTime}
 use Rattle.samples.specs.declared.Samples.{Samples}
 use Rattle.samples.specs.declared.Pair.{Pair}
 use Rattle.samples.specs.declared.Pair.the-variants.{Unset, Set}
-use Rattle.relay.specs.Sent.{sentOf, sentNo}
-use Rattle.relay.specs.declared.Sent.{Sent}
-use Rattle.relay.specs.declared.Sent.the-variants.{At, Few, Late, Beyond}
+use Rattle.line.specs.Sent.{sentOf, sentNo}
+use Rattle.line.specs.declared.Sent.{Sent}
+use Rattle.line.specs.declared.Sent.the-variants.{At, Few, Late, Beyond}
 use Rattle.choice.specs.declared.Precedence.{Precedence}
 use Rattle.choice.specs.declared.Candidate.{Candidate}
 use Rattle.choice.specs.declared.Candidate.the-variants.{Nothing, Clock}

@@ -5,8 +5,8 @@ pub mod record;
 pub mod send;
 
 use choice::Announcement;
+use delay::DelaySetting;
 use frame::Fields;
-use relay::DelaySetting;
 use samples::Pair;
 use samples::Samples;
 use times::LocalTime;

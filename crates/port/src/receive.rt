@@ -11,10 +11,9 @@ use choice::Announcement;
 use choice::Precedence;
 use choice::hop;
 use choice::order;
+use delay::Delay;
+use delay::DelaySetting;
 use frame::Fields;
-use relay::Delay;
-use relay::DelaySetting;
-use relay::delays;
 use samples::Pair;
 use samples::Sample;
 use samples::kept;
@@ -98,7 +97,7 @@ pub fn followed(
     let there = f.local;
     let tx = f.tx;
     let rx = f.rx;
-    match delays::link_delay(setting, pair, there, p, tx, rx) {
+    match delay::link_delay(setting, pair, there, p, tx, rx) {
         Delay::TooLong => refused(port, refusals::DELAY_TOO_LONG, f.count, at),
         Delay::Is(delay) => Received {
             answer: refusals::DONE,

@@ -3,7 +3,7 @@ ghost use mathlib.Core.Path.{_≡_};
 ghost use Prim.Native.Nat.{_<_};
 ghost use lib.ListN.{length};
 ghost use Rattle.samples.specs.Keep.{LawfulSamples};
-ghost use Rattle.relay.specs.Sent.{longestElapsed};
+ghost use Rattle.line.specs.Sent.{longestElapsed};
 ghost use Rattle.port.specs.Send.{echoTx, echoRx, frameOf, sendingOf, deliveredNo, deliveredBytes};
 use crate::Port;
 use crate::Sending;
@@ -12,8 +12,8 @@ use choice::Precedence;
 use frame::Fields;
 use frame::Mac;
 use frame::write;
-use relay::Sent;
-use relay::sending;
+use line::Sent;
+use line::departure;
 use samples::Pair;
 use samples::Samples;
 use times::ErrorTime;
@@ -81,7 +81,7 @@ pub fn composed(
 {
     match choice {
         Candidate::Nothing => Sending::Refused(refusals::NO_CLOCK),
-        Candidate::Clock(precedence, hop, _) => match sending::sent(samples, t, back) {
+        Candidate::Clock(precedence, hop, _) => match departure::sent(samples, t, back) {
             Sent::At(grand, error) => {
                 Sending::Frame(fields(mac, precedence, hop, t, grand, error, port))
             }

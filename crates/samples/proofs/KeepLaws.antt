@@ -1,29 +1,26 @@
 -- Laws of the samples that are kept: where the limits hold grand time rose, and what is kept is lawful.
-use mathlib.Core.Path.{_≡_, refl, sym, ap, _∙_}
+use mathlib.Core.Path.{_≡_, refl, ap}
 use mathlib.Core.Bool.{Bool, true, false}
 use Prim.Native.Nat.{ℕ, _+_, _<_, _≤_}
 use native.Mathlib.Omega.{arith}
 use lib.IntN.{pos, natAbs, subℕ, _-ℤ_}
 use Rattle.times.specs.Times.{second, InRange}
-use Rattle.samples.specs.Rate.{Limits}
-use Rattle.samples.specs.Keep.{spreadOf, riseOf, gainBetween, keptBy, keptOf, LawfulSamples}
+use Rattle.samples.specs.Rate.{Limits, steepest}
+use Rattle.samples.specs.Keep.{spreadOf, riseOf, gainedOf, gainBetween, rateBetween, keptBy, keptOf, endsOf, LawfulEnds, LawfulSamples}
 use Rattle.samples.specs.declared.Sample.{Sample}
 use Rattle.samples.specs.declared.Samples.{Samples}
 use Rattle.samples.specs.declared.Samples.the-variants.{Empty, One, Two}
+use Rattle.samples.specs.declared.Ends.the-variants.{Both}
 use Rattle.samples.specs.declared.Gain.{Gain}
 use Rattle.samples.specs.declared.Gain.the-variants.{Within, Outside}
-use Rattle.numbers.proofs.Ring.{minus-is, neg-pos, of-pos, same, sub-+, sub-ge, sub-ge2}
-use Rattle.samples.proofs.RateLaws.{within-gain}
+use Rattle.numbers.proofs.Ring.{minus-is, neg-pos, sub-+, sub-ge, sub-ge2}
+use Rattle.samples.proofs.RateLaws.{within-gain, rate-small}
 
 -- where the limits hold, grand time rose, and by less than a second
 pub limits-rise : (a b s : ℕ) → Limits (pos b -ℤ pos a -ℤ pos s) s → (a ≤ b) × (b < a + second)
 limits-rise a b s k =
     let e : pos b -ℤ pos a -ℤ pos s ≡ subℕ (b + 0) (a + s) = rw (minus-is b a, neg-pos s, sub-+ b a 0 s) in
     omega (arith, k .near, k .low, k .high, ap natAbs e, sub-ge (b + 0) (a + s), sub-ge2 (b + 0) (a + s))
-
--- a rise of n is the difference of the grand times
-pub rise-is : (a b n : ℕ) → a + n ≡ b → pos n ≡ pos b -ℤ pos a
-rise-is a b n e = of-pos n ∙ same n 0 b a (omega arith) ∙ sym (minus-is b a)
 
 -- ---- what is kept
 
@@ -50,7 +47,7 @@ module _ (old : Samples) (same : Bool) (new : Sample) where
 kept-by-lawful : (gain : Gain) (a new : Sample) → gain ≡ gainBetween a new → InRange (a .grand) → InRange (new .grand) → LawfulSamples (keptBy gain a new)
 kept-by-lawful (Within d) a new e h k =
     let g = within-gain (riseOf a new) (spreadOf a new) d e in
-    (h, k, rw (g .0) at (g .1))
+    record { oldest = h; newest = k; limits = rw (g .0) at (g .1) }
 kept-by-lawful Outside a new e h k = k
 
 pub kept-lawful : (old : Samples) (same : Bool) (new : Sample) → LawfulSamples old → InRange (new .grand) → LawfulSamples (keptOf old same new)
@@ -58,4 +55,18 @@ unfolding keptOf
 kept-lawful old false new h k = k
 kept-lawful Empty true new h k = k
 kept-lawful (One a) true new h k = kept-by-lawful (gainBetween a new) a new refl h k
-kept-lawful (Two z a) true new h k = kept-by-lawful (gainBetween a new) a new refl (h .1) k
+kept-lawful (Two z a) true new h k = kept-by-lawful (gainBetween a new) a new refl (h .newest) k
+
+-- ---- the oldest and the newest
+
+pub between-small : (a b : Sample) → LawfulEnds a b → natAbs (rateBetween a b) ≤ steepest
+between-small a b w = rate-small (gainedOf a b) (spreadOf a b) (w .limits)
+
+pub ends-lawful : (samples : Samples) (a b : Sample) → LawfulSamples samples → endsOf samples ≡ Both a b → LawfulEnds a b
+unfolding endsOf
+ends-lawful Empty a b w e = let z : _≡_ {A = ℕ} 0 1 = cc in absurd (omega arith)
+ends-lawful (One c) a b w e = let z : _≡_ {A = ℕ} 0 1 = cc in absurd (omega arith)
+ends-lawful (Two c d) a b w e =
+    let p : c ≡ a = cc in
+    let q : d ≡ b = cc in
+    rw (p, q) at w

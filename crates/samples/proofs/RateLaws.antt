@@ -1,20 +1,20 @@
 -- Laws of the limits, the gain and the rate, by which every proof above them goes.
 use mathlib.Core.Path.{_≡_, refl, sym, _∙_}
 use mathlib.Core.Bool.{Bool, true, false, cond}
-use Prim.Native.Nat.{ℕ, _*_, _^_, _<_, _≤_}
+use Prim.Native.Nat.{ℕ, _+_, _*_, _^_, _<_, _≤_}
 use native.Mathlib.Nat.{mul-le-mul-right}
 use native.Mathlib.Omega.{arith}
 use borrow.Author.Tests.{le-leb, leb-true}
 use lib.Dec.{leb}
 use lib.IntN.{ℤ, pos, natAbs, _-ℤ_, _*ℤ_}
 use Rattle.times.specs.declared.LocalTime.{LocalTime}
-use Rattle.samples.specs.Rate.{shortestSpread, longestSpread, perGain, one, Limits, limitsHold, gainOf, rateOf, scaledOf, rateWithin, steepest, neighbourRateOf}
+use Rattle.samples.specs.Rate.{shortestSpread, longestSpread, perGain, parts, Limits, limitsHold, gainOf, rateOf, scaledOf, advanceOf, rateWithin, steepest, neighbourRateOf}
 use Rattle.samples.specs.declared.Pair.{Pair}
 use Rattle.samples.specs.declared.Pair.the-variants.{Unset, Set}
 use Rattle.samples.specs.declared.Gain.{Gain}
 use Rattle.samples.specs.declared.Gain.the-variants.{Within, Outside}
-use Rattle.numbers.proofs.Ring.{natAbs-*}
-use Rattle.numbers.proofs.Floor.{floor-small}
+use Rattle.numbers.proofs.Ring.{natAbs-*, natAbs-+}
+use Rattle.numbers.proofs.Floor.{floor-near, floor-small}
 use Rattle.times.proofs.TestLaws.{three-hold, refuted}
 
 -- ---- the limits, as a fact and as a test
@@ -53,20 +53,33 @@ outside-gain rise s e k =
     let z : _≡_ {A = ℕ} 0 1 = cc in
     omega arith
 
+-- ---- the two roundings, each behind its rule's name: a change of rounding changes these two alone
+
+pub rate-near : (d : ℤ) (s : ℕ) → 0 < s → natAbs (pos s *ℤ rateOf d s -ℤ d *ℤ pos parts) < s
+unfolding rateOf
+rate-near d s h = floor-near (d *ℤ pos parts) s h
+
+pub scaled-near : (r u : ℤ) → natAbs (pos parts *ℤ scaledOf r u -ℤ r *ℤ u) < parts
+unfolding scaledOf
+scaled-near r u = floor-near (r *ℤ u) parts (omega arith)
+
 -- ---- sizes
 
 -- no rate within the limits is larger than the steepest
 pub rate-small : (d : ℤ) (s : ℕ) → Limits d s → natAbs (rateOf d s) ≤ steepest
 unfolding rateOf
 rate-small d s k =
-    floor-small (d *ℤ pos one) s steepest (omega (arith, k .low)) (rw (natAbs-* d (pos one)) (omega (arith, k .near, k .low)))
+    floor-small (d *ℤ pos parts) s steepest (omega (arith, k .low)) (rw (natAbs-* d (pos parts)) (omega (arith, k .near, k .low)))
 
--- what a rate makes of a stretch within the longestSpread is less than 2^28
+-- what a rate makes of a stretch within the longest spread is less than 2^28; the other clock moves on by less than a second
 pub scaled-small : (rate u : ℤ) → natAbs rate ≤ steepest → natAbs u ≤ longestSpread → natAbs (scaledOf rate u) < 2 ^ 28
 unfolding scaledOf
 scaled-small rate u hr hu =
-    let h : natAbs (rate *ℤ u) < 137438961 * one = rw (natAbs-* rate u) (omega (arith, mul-le-mul-right (natAbs u) hr, hu)) in
-    omega (arith, floor-small (rate *ℤ u) one 137438961 (omega arith) h)
+    let h : natAbs (rate *ℤ u) < 137438961 * parts = rw (natAbs-* rate u) (omega (arith, mul-le-mul-right (natAbs u) hr, hu)) in
+    omega (arith, floor-small (rate *ℤ u) parts 137438961 (omega arith) h)
+
+pub advance-small : (rate u : ℤ) → natAbs rate ≤ steepest → natAbs u ≤ longestSpread → natAbs (advanceOf rate u) < 2 ^ 39 + 2 ^ 28
+advance-small rate u hr hu = omega (arith, natAbs-+ u (scaledOf rate u), scaled-small rate u hr hu)
 
 -- and no rate of a gain, nor a neighbour's
 pub within-small : (gain : Gain) (rise : ℤ) (s : ℕ) → gain ≡ gainOf rise s → natAbs (rateWithin gain s) ≤ steepest

@@ -1,12 +1,14 @@
--- Step 4, which samples are kept.
+-- Step 4, which samples are kept, and the two of them that a line is read off.
 use mathlib.Core.Bool.{Bool, true, false}
 use Prim.Native.Nat.{ℕ}
 use lib.IntN.{ℤ, pos, _-ℤ_}
 use Rattle.times.specs.Times.{sinceOf, units, InRange}
-use Rattle.samples.specs.Rate.{Limits, gainOf}
+use Rattle.samples.specs.Rate.{Limits, gainOf, rateOf}
 use Rattle.samples.specs.declared.Sample.{Sample}
 use Rattle.samples.specs.declared.Samples.{Samples}
 use Rattle.samples.specs.declared.Samples.the-variants.{Empty, One, Two}
+use Rattle.samples.specs.declared.Ends.{Ends}
+use Rattle.samples.specs.declared.Ends.the-variants.{Few, Both}
 use Rattle.samples.specs.declared.Gain.{Gain}
 use Rattle.samples.specs.declared.Gain.the-variants.{Within, Outside}
 
@@ -24,6 +26,10 @@ gainedOf a b = riseOf a b -ℤ pos (spreadOf a b)
 abbrev pub gainBetween : Sample → Sample → Gain
 gainBetween a b = gainOf (riseOf a b) (spreadOf a b)
 
+-- the rate of a clock from one sample to a later one
+abbrev pub rateBetween : Sample → Sample → ℤ
+rateBetween a b = rateOf (gainedOf a b) (spreadOf a b)
+
 -- the newest sample stays beside the new one exactly where the limits hold between them
 abbrev pub keptBy : Gain → Sample → Sample → Samples
 keptBy (Within d) newest new = Two newest new
@@ -36,8 +42,20 @@ keptOf Empty true new = One new
 keptOf (One a) true new = keptBy (gainBetween a new) a new
 keptOf (Two z a) true new = keptBy (gainBetween a new) a new
 
--- samples that step 4 keeps: grand times in range, and two only within the limits
+-- too few samples to read a line off, or the oldest and the newest that are kept
+unfoldable pub endsOf : Samples → Ends
+endsOf Empty = Few
+endsOf (One a) = Few
+endsOf (Two a b) = Both a b
+
+-- two samples that a line is read off: grand times in range, and the limits hold between them
+pub record LawfulEnds (a b : Sample) : Type 0 where
+  pub oldest : InRange (a .grand)
+  pub newest : InRange (b .grand)
+  pub limits : Limits (gainedOf a b) (spreadOf a b)
+
+-- samples that step 4 keeps
 abbrev pub LawfulSamples : Samples → Type 0
 LawfulSamples Empty = Unit {0}
 LawfulSamples (One a) = InRange (a .grand)
-LawfulSamples (Two a b) = InRange (a .grand) × InRange (b .grand) × Limits (gainedOf a b) (spreadOf a b)
+LawfulSamples (Two a b) = LawfulEnds a b

@@ -1,7 +1,8 @@
-// Step 4: which samples are kept.
+// Step 4: which samples are kept, and the two of them that a line is read off.
 ghost use mathlib.Core.Path.{_≡_};
 ghost use Rattle.times.specs.Times.{InRange};
-ghost use Rattle.samples.specs.Keep.{gainBetween, keptBy, keptOf, LawfulSamples};
+ghost use Rattle.samples.specs.Keep.{gainBetween, rateBetween, keptBy, keptOf, endsOf, LawfulEnds, LawfulSamples};
+use crate::Ends;
 use crate::Gain;
 use crate::Sample;
 use crate::Samples;
@@ -20,6 +21,17 @@ pub fn gain_between(a: Sample, b: Sample) -> Gain
     match grand::risen(a.grand, b.grand) {
         Rise::By(n) => rate::gained(n, s),
         Rise::Far => Gain::Outside,
+    }
+}
+
+// The rate of a clock from its oldest kept sample to its newest.
+pub fn rate_between(oldest: Sample, newest: Sample) -> i64
+    requires { ⌜ LawfulEnds oldest newest ⌝ }
+    ensures { λ r. ⌜ r ≡ rateBetween oldest newest ⌝ }
+{
+    match gain_between(oldest, newest) {
+        Gain::Within(d) => rate::rate(d, local::since(newest.local, oldest.local)),
+        Gain::Outside => 0,
     }
 }
 
@@ -47,5 +59,16 @@ pub fn keep(old: Samples, same: bool, new: Sample) -> Samples
         }
     } else {
         Samples::One(new)
+    }
+}
+
+// The oldest and the newest sample that are kept.
+pub fn ends(samples: Samples) -> Ends
+    ensures { λ r. ⌜ r ≡ endsOf samples ⌝ }
+{
+    match samples {
+        Samples::Empty => Ends::Few,
+        Samples::One(_) => Ends::Few,
+        Samples::Two(oldest, newest) => Ends::Both(oldest, newest),
     }
 }

@@ -20,6 +20,12 @@ pub enum Samples {
     Two(Sample, Sample),
 }
 
+// The oldest and the newest sample that are kept, or that there are too few to read a line off.
+pub enum Ends {
+    Few,
+    Both(Sample, Sample),
+}
+
 // A neighbour's localTime and the arrival here that it belongs to.
 pub enum Pair {
     Unset,

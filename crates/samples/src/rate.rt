@@ -2,7 +2,7 @@
 ghost use mathlib.Core.Path.{_≡_};
 ghost use Prim.Native.Nat.{_<_, _≤_, _^_};
 ghost use lib.IntN.{pos, natAbs};
-ghost use Rattle.samples.specs.Rate.{Limits, gainOf, rateOf, scaledOf, rateWithin, neighbourRateOf, longestSpread, steepest};
+ghost use Rattle.samples.specs.Rate.{Limits, gainOf, rateOf, scaledOf, advanceOf, rateWithin, neighbourRateOf, longestSpread, steepest};
 use crate::Gain;
 use crate::Pair;
 use numbers::whole;
@@ -55,6 +55,14 @@ pub fn scaled(rate: i64, u: i64) -> i64
     ensures { λ r. ⌜ r ≡ scaledOf rate u ⌝ }
 {
     whole::floor_div(whole::mul(rate, u), PARTS)
+}
+
+// How far the other clock moves on over a stretch u of this one.
+pub fn advance(rate: i64, u: i64) -> i64
+    requires { ⌜ (natAbs rate ≤ steepest) × (natAbs u ≤ longestSpread) ⌝ }
+    ensures { λ r. ⌜ r ≡ advanceOf rate u ⌝ }
+{
+    whole::add(u, scaled(rate, u))
 }
 
 // The rate of a clock that rose by `rise` over a spread s, 0 where the limits do not hold.

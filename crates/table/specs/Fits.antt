@@ -4,10 +4,10 @@ use mathlib.Core.List.{List, [], _∷_}
 use Prim.Native.Nat.{ℕ, _^_}
 use lib.Dec.{ltb, leb}
 use lib.ListN.{take}
-use Rattle.relay.specs.Delay.{longestDelay}
-use Rattle.relay.specs.Sent.{longestElapsed}
-use Rattle.relay.specs.declared.DelaySetting.{DelaySetting}
-use Rattle.relay.specs.declared.DelaySetting.the-variants.{Measured, Fixed}
+use Rattle.delay.specs.Delay.{longestDelay}
+use Rattle.line.specs.Sent.{longestElapsed}
+use Rattle.delay.specs.declared.DelaySetting.{DelaySetting}
+use Rattle.delay.specs.declared.DelaySetting.the-variants.{Measured, Fixed}
 use Rattle.port.specs.declared.Setting.{Setting}
 use Rattle.table.specs.Table.{mostPorts}
 

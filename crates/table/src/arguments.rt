@@ -6,10 +6,9 @@ ghost use lib.ListN.{take};
 ghost use Rattle.times.specs.Times.{circle};
 ghost use Rattle.table.specs.Arguments.{hasLink, portRefusal, sendRefusal, ownClockRefusal, maskBeyond};
 ghost use Rattle.table.specs.Fits.{delayFits, delaysFit, setupFits};
+use delay::DelaySetting;
 use frame::layout;
 use port::Setting;
-use relay::DelaySetting;
-use relay::delays;
 use times::grand;
 use times::local;
 
@@ -105,7 +104,7 @@ pub fn delay_fits(setting: DelaySetting) -> bool
 {
     match setting {
         DelaySetting::Measured => true,
-        DelaySetting::Fixed(delay) => delay <= delays::LONGEST_DELAY,
+        DelaySetting::Fixed(delay) => delay <= delay::LONGEST_DELAY,
     }
 }
 

@@ -8,11 +8,11 @@ ghost use Rattle.table.specs.Fits.{measuredSetting};
 use choice::Candidate;
 use choice::Precedence;
 use choice::candidates;
+use delay::DelaySetting;
 use port::OwnClock;
 use port::Port;
 use port::Setting;
 use port::record;
-use relay::DelaySetting;
 use samples::Samples;
 use times::LocalTime;
 

@@ -1,12 +1,16 @@
--- Laws of local and grand time: a difference lies on the circle, and a grand time is determined by its units.
-use mathlib.Core.Path.{_≡_, sym, ap, _∙_}
-use Prim.Native.Nat.{ℕ, _+_, _-_, _/_, _%_, _^_, _<_}
+-- Laws of local and grand time: a difference lies on the circle, and a grand time and the moment of its units.
+use mathlib.Core.Path.{_≡_, refl, sym, ap, _∙_}
+use mathlib.Core.Bool.{Bool, true, false, cond}
+use Prim.Native.Nat.{ℕ, zero, suc, _+_, _-_, _/_, _%_, _^_, _<_, _≤_}
 use native.Mathlib.Nat.{add-mod, mod-lt}
 use native.Mathlib.Omega.{arith}
-use lib.Dec.{lit<}
-use Rattle.times.specs.Times.{circle, second, sinceOf, units, grandOf, InRange}
+use borrow.Author.Tests.{lt-ltb, le-ltb, ltb-true, ltb-false}
+use lib.Dec.{lit<, ltb}
+use lib.IntN.{ℤ, pos, negsuc, _-ℤ_}
+use Rattle.times.specs.Times.{circle, second, grandEnd, sinceOf, units, grandOf, InRange, momentOf}
 use Rattle.times.specs.declared.LocalTime.{LocalTime}
 use Rattle.times.specs.declared.GrandTime.{GrandTime}
+use Rattle.times.specs.declared.Moment.the-variants.{At, Beyond}
 
 -- a difference is less than the circle
 pub since-lt : (a b : LocalTime) → sinceOf a b < circle
@@ -37,5 +41,44 @@ grand-is g n h e =
     λ i. record { 0 = s i; 1 = f i }
 
 -- a grand time within its range is below the end of grand time
-pub units-lt : (g : GrandTime) → InRange g → units g < 2 ^ 80
+pub units-lt : (g : GrandTime) → InRange g → units g < grandEnd
 units-lt g r = omega arith
+
+-- ---- the moment of a whole number of units
+
+pub moment-at : (g : GrandTime) (z : ℤ) → InRange g → pos (units g) ≡ z → At g ≡ momentOf z
+unfolding momentOf
+moment-at g z r e =
+    rw (← e, lt-ltb (units g) grandEnd (units-lt g r)) (ap At (grand-is g (units g) (r .fraction) refl))
+
+-- too late, and too early
+pub moment-end : (n : ℕ) → grandEnd ≤ n → Beyond ≡ momentOf (pos n)
+unfolding momentOf
+moment-end n h = rw (le-ltb n grandEnd h)
+
+pub moment-under : (a b : ℕ) → a < b → Beyond ≡ momentOf (pos a -ℤ pos b)
+unfolding momentOf
+moment-under a zero h = absurd (omega arith)
+moment-under a (suc b) h = rw (lt-ltb a (suc b) h)
+
+-- a moment is a grand time in range, of so many units
+pub at-moment : (z : ℤ) (g : GrandTime) → momentOf z ≡ At g → InRange g × (pos (units g) ≡ z)
+unfolding momentOf
+at-moment (pos n) g e = go (ltb n grandEnd) refl e
+  where
+    go : (t : Bool) → ltb n grandEnd ≡ t → cond t (At (grandOf n)) Beyond ≡ At g → InRange g × (pos (units g) ≡ pos n)
+    go true k f =
+        let q : g ≡ grandOf n = cc in
+        let h = ltb-true n grandEnd k in
+        rw q (record { seconds = omega arith; fraction = omega arith }, ap pos (omega arith))
+    go false k f = let z : _≡_ {A = ℕ} 0 1 = cc in absurd (omega arith)
+at-moment (negsuc n) g e = let z : _≡_ {A = ℕ} 0 1 = cc in absurd (omega arith)
+
+-- a number that has none reaches the end of grand time
+pub beyond-moment : (n : ℕ) → momentOf (pos n) ≡ Beyond → grandEnd ≤ n
+unfolding momentOf
+beyond-moment n e = go (ltb n grandEnd) refl e
+  where
+    go : (t : Bool) → ltb n grandEnd ≡ t → cond t (At (grandOf n)) Beyond ≡ Beyond → grandEnd ≤ n
+    go true k f = let z : _≡_ {A = ℕ} 0 1 = cc in absurd (omega arith)
+    go false k f = ltb-false n grandEnd k

@@ -2,12 +2,14 @@
 use mathlib.Core.Bool.{cond, _&&_}
 use Prim.Native.Nat.{ℕ, _+_, _-_, _*_, _/_, _%_, _^_, _<_}
 use lib.Dec.{leb, ltb}
-use lib.IntN.{ℤ}
+use lib.IntN.{ℤ, pos, negsuc}
 use mir.Syntax.{w32}
 use mir.Val.{toZ}
 use Rattle.times.specs.declared.LocalTime.{LocalTime}
 use Rattle.times.specs.declared.GrandTime.{GrandTime}
 use Rattle.times.specs.declared.ErrorTime.{ErrorTime}
+use Rattle.times.specs.declared.Moment.{Moment}
+use Rattle.times.specs.declared.Moment.the-variants.{At, Beyond}
 use Rattle.times.specs.declared.Rise.{Rise}
 use Rattle.times.specs.declared.Rise.the-variants.{By, Far}
 
@@ -43,6 +45,11 @@ grandOf n = record { 0 = n / second; 1 = n % second }
 pub record InRange (g : GrandTime) : Type 0 where
   pub seconds : g .0 < second
   pub fraction : g .1 < second
+
+-- the grand time of a whole number of units, where there is one: no less than 0, and below the end of grand time
+unfoldable pub momentOf : ℤ → Moment
+momentOf (pos n) = cond (ltb n grandEnd) (At (grandOf n)) Beyond
+momentOf (negsuc n) = Beyond
 
 -- a rise from a to b that is no less than 0 and below a second
 unfoldable pub riseWithin : ℕ → ℕ → Rise

@@ -1,46 +1,59 @@
-// Grand times as one number of units: moved by less than a second, and the rise from one to another.
+// Grand times as one number of units: the moment less than a second from one, and the rise from one to another.
 ghost use mathlib.Core.Path.{_≡_};
-ghost use Prim.Native.Nat.{_+_, _-_, _<_, _≤_, _^_};
-ghost use lib.IntN.{pos, natAbs, _+ℤ_};
-ghost use Rattle.numbers.specs.Whole.{atLeastZero};
-ghost use Rattle.times.specs.Times.{units, grandOf, InRange, riseWithin};
+ghost use Prim.Native.Nat.{_+_, _<_};
+ghost use lib.IntN.{pos, natAbs, _+ℤ_, _-ℤ_};
+ghost use Rattle.times.specs.Times.{second, units, InRange, momentOf, riseWithin};
 use crate::GrandTime;
+use crate::Moment;
 use crate::Rise;
 use numbers::whole;
 
-// The units of a second.
+// The units of a second, and where the seconds of grand time end.
 pub const SECOND: u64 = 0x100_0000_0000;
 
-// g + n.
-pub fn later(g: GrandTime, n: u64) -> GrandTime
-    requires { ⌜ (g .0 < 2 ^ 63) × (g .1 < 2 ^ 40) × (n < 2 ^ 40) ⌝ }
-    ensures { λ r. ⌜ r ≡ grandOf (units g + n) ⌝ }
+const SECONDS_END: u64 = 0x100_0000_0000;
+
+// The moment n after g.
+pub fn later(g: GrandTime, n: u64) -> Moment
+    requires { ⌜ InRange g ⌝ }
+    requires { ⌜ n < second ⌝ }
+    ensures { λ r. ⌜ r ≡ momentOf (pos (units g + n)) ⌝ }
 {
     let total = g.1 + n;
-    GrandTime(g.0 + total / SECOND, total % SECOND)
-}
-
-// g - n, where g is no less than n.
-pub fn earlier(g: GrandTime, n: u64) -> GrandTime
-    requires { ⌜ (g .1 < 2 ^ 40) × (n < 2 ^ 40) × (n ≤ units g) ⌝ }
-    ensures { λ r. ⌜ r ≡ grandOf (units g - n) ⌝ }
-{
-    if g.1 < n {
-        GrandTime(g.0 - 1, g.1 + SECOND - n)
+    let seconds = g.0 + total / SECOND;
+    if seconds < SECONDS_END {
+        Moment::At(GrandTime(seconds, total % SECOND))
     } else {
-        GrandTime(g.0, g.1 - n)
+        Moment::Beyond
     }
 }
 
-// g + x, where g is no less than the size of x.
-pub fn moved(g: GrandTime, x: i64) -> GrandTime
-    requires { ⌜ (g .0 < 2 ^ 63) × (g .1 < 2 ^ 40) × (natAbs x < 2 ^ 40) × (natAbs x ≤ units g) ⌝ }
-    ensures { λ r. ⌜ r ≡ grandOf (atLeastZero (pos (units g) +ℤ x)) ⌝ }
+// The moment n before g.
+pub fn earlier(g: GrandTime, n: u64) -> Moment
+    requires { ⌜ InRange g ⌝ }
+    requires { ⌜ n < second ⌝ }
+    ensures { λ r. ⌜ r ≡ momentOf (pos (units g) -ℤ pos n) ⌝ }
 {
+    if n <= g.1 {
+        return Moment::At(GrandTime(g.0, g.1 - n));
+    }
+    if g.0 == 0 {
+        return Moment::Beyond;
+    }
+    Moment::At(GrandTime(g.0 - 1, g.1 + SECOND - n))
+}
+
+// The moment x after g, before it where x is below zero.
+pub fn moved(g: GrandTime, x: i64) -> Moment
+    requires { ⌜ InRange g ⌝ }
+    requires { ⌜ natAbs x < second ⌝ }
+    ensures { λ r. ⌜ r ≡ momentOf (pos (units g) +ℤ x) ⌝ }
+{
+    let n = whole::abs(x);
     if whole::is_negative(x) {
-        earlier(g, whole::abs(x))
+        earlier(g, n)
     } else {
-        later(g, whole::abs(x))
+        later(g, n)
     }
 }
 

@@ -1,4 +1,4 @@
-// The two kinds of time, which never stand for each other, and the arithmetic on each; the hop count, which goes with them from station to station.
+// The two kinds of time, which never stand for each other, and the arithmetic on each.
 // The unit of every time is U = 2^-40 s.
 pub mod grand;
 pub mod local;
@@ -11,6 +11,12 @@ pub struct GrandTime(pub u64, pub u64);
 
 // An errorTime in U: its 32 bits, in two's complement.
 pub struct ErrorTime(pub u32);
+
+// A grand time, or that it would be below zero or reach the end of grand time.
+pub enum Moment {
+    At(GrandTime),
+    Beyond,
+}
 
 // By how much grand time rose, where it rose by less than a second.
 pub enum Rise {

@@ -2,7 +2,7 @@
 use borrow.Author.Needs.{needs}
 use mathlib.Core.Path.{sym, ap, _∙_, subst}
 use Rattle.samples.specs.Keep.{LawfulSamples}
-use Rattle.relay.specs.Drift.{driftOf}
+use Rattle.line.specs.Drift.{driftOf}
 use Rattle.table.proofs.TableLaws.{samples-lawful}
 use Rattle.bridge.proofs.StateLaws.{drift-refused, drift-done}
 use Rattle.bridge.proofs.drift.Statement.{statement}

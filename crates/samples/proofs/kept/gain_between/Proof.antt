@@ -4,9 +4,10 @@ use mathlib.Core.Path.{_≡_, sym, _∙_}
 use Prim.Native.Nat.{_+_, _<_}
 use native.Mathlib.Omega.{arith}
 use Rattle.times.specs.Times.{second, units}
+use Rattle.numbers.proofs.Ring.{minus-pos}
 use Rattle.times.proofs.RiseLaws.{by-rise, far-rise}
 use Rattle.samples.proofs.RateLaws.{gain-outside}
-use Rattle.samples.proofs.KeepLaws.{limits-rise, rise-is}
+use Rattle.samples.proofs.KeepLaws.{limits-rise}
 use Rattle.samples.proofs.kept.gain_between.Statement.{statement}
 use Rattle.samples.proofs.kept.gain_between.Tie as tie
 
@@ -34,7 +35,7 @@ enum-told c = search needs
 returns : tie.Need-returns
 returns c =
     let n = c .before .before in
-    c .gained .ensures ∙ rw (n .before .before .before .since .ensures, rise-is _ _ _ (rose n .0))
+    c .gained .ensures ∙ rw (n .before .before .before .since .ensures, minus-pos _ _ _ (rose n .0))
 
 returns-2 : tie.Need-returns-2
 returns-2 c =

@@ -6,7 +6,7 @@ use lib.IntN.{ℤ, pos, _*ℤ_}
 use mir.Syntax.{w64}
 use mir.Val.{toZ, ofZ}
 use Rattle.numbers.specs.Whole.{floorDiv}
-use Rattle.samples.specs.Rate.{one, rateOf}
+use Rattle.samples.specs.Rate.{parts, rateOf}
 use Rattle.numbers.proofs.Machine.{back, got}
 use Rattle.samples.proofs.rate.rate.Statement.{statement}
 use Rattle.samples.proofs.rate.rate.Tie as tie
@@ -27,7 +27,7 @@ returns c =
     got (c .floor-div .ok)
     (c .floor-div .ensures
     ∙ ap (λ (z : ℤ). floorDiv z (p .before .args .s))
-    (got (p .mul .ok) (p .mul .ensures ∙ ap (λ (z : ℤ). z *ℤ pos one) (gain-is (p .before)))))
+    (got (p .mul .ok) (p .mul .ensures ∙ ap (λ (z : ℤ). z *ℤ pos parts) (gain-is (p .before)))))
 
 pub rate-spec : {M : Type 1} → statement M
 rate-spec = tie.close (tie.spec mul-requires floor-div-requires returns)

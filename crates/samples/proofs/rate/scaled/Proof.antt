@@ -7,7 +7,7 @@ use lib.IntN.{ℤ, natAbs, _*ℤ_}
 use mir.Syntax.{w64}
 use mir.Val.{toZ, ofZ}
 use Rattle.numbers.specs.Whole.{floorDiv}
-use Rattle.samples.specs.Rate.{one, scaledOf}
+use Rattle.samples.specs.Rate.{parts, scaledOf}
 use Rattle.numbers.proofs.Machine.{back, got}
 use Rattle.samples.proofs.rate.scaled.Statement.{statement}
 use Rattle.samples.proofs.rate.scaled.Tie as tie
@@ -30,7 +30,7 @@ floor-div-requires c κs = search needs
 
 returns : tie.Need-returns
 unfolding scaledOf
-returns c = got (c .floor-div .ok) (c .floor-div .ensures ∙ ap (λ (z : ℤ). floorDiv z one) (mul-is (c .before)))
+returns c = got (c .floor-div .ok) (c .floor-div .ensures ∙ ap (λ (z : ℤ). floorDiv z parts) (mul-is (c .before)))
 
 pub scaled-spec : {M : Type 1} → statement M
 scaled-spec = tie.close (tie.spec mul-requires floor-div-requires returns)

@@ -1,24 +1,40 @@
--- The difference of the fractions, with a second borrowed where it is below zero.
+-- The difference of the fractions, with a second borrowed where it is below zero and there is one to borrow.
 use borrow.Author.Needs.{needs}
+use mathlib.Core.Path.{_≡_}
+use Prim.Native.Nat.{_+_}
 use native.Mathlib.Omega.{arith}
-use Rattle.times.proofs.TimeLaws.{grand-is}
+use Rattle.numbers.proofs.Ring.{minus-pos}
+use lib.IntN.{pos, _-ℤ_}
+use Rattle.times.specs.Times.{units, InRange, momentOf}
+use Rattle.times.specs.declared.GrandTime.{GrandTime}
+use Rattle.times.specs.declared.Moment.the-variants.{At}
+use Rattle.times.proofs.TimeLaws.{moment-at, moment-under}
 use Rattle.times.proofs.grand.earlier.Statement.{statement}
 use Rattle.times.proofs.grand.earlier.Tie as tie
 
-sub-t5 : tie.Need-sub-t5
-sub-t5 c = search needs
-
-add-t6 : tie.Need-add-t6
-add-t6 c = search needs
-
-sub-t7 : tie.Need-sub-t7
-sub-t7 c = search needs
+-- a grand time n below g
+lies : (s : tie.Start) (h : GrandTime) → InRange h → s .args .n + units h ≡ units (s .args .g) → At h ≡ momentOf (pos (units (s .args .g)) -ℤ pos (s .args .n))
+lies s h r e = moment-at h _ r (minus-pos (s .args .n) (units (s .args .g)) (units h) e)
 
 returns : tie.Need-returns
-returns c = grand-is _ _ (omega arith) (omega arith)
+returns c = lies (c .before .before .before) _ (record { seconds = omega arith; fraction = omega arith }) (omega arith)
 
 returns-2 : tie.Need-returns-2
-returns-2 c = grand-is _ _ (omega arith) (omega arith)
+returns-2 c =
+    let s = c .before .before .before .before in
+    moment-under (units (s .args .g)) (s .args .n) (omega arith)
+
+sub-t6 : tie.Need-sub-t6
+sub-t6 c = search needs
+
+add-t7 : tie.Need-add-t7
+add-t7 c = search needs
+
+sub-t8 : tie.Need-sub-t8
+sub-t8 c = search needs
+
+returns-3 : tie.Need-returns-3
+returns-3 c = lies (c .before .before .before .before .before .before) _ (record { seconds = omega arith; fraction = omega arith }) (omega arith)
 
 pub earlier-spec : {M : Type 1} → statement M
-earlier-spec = tie.close (tie.spec sub-t5 add-t6 sub-t7 returns returns-2)
+earlier-spec = tie.close (tie.spec returns returns-2 sub-t6 add-t7 sub-t8 returns-3)

@@ -1,18 +1,23 @@
--- The add of the fractions, with its whole second carried over.
+-- The sum of the fractions, with its whole second carried over.
 use borrow.Author.Needs.{needs}
+use mathlib.Core.Path.{ap}
 use native.Mathlib.Omega.{arith}
-use Rattle.times.proofs.TimeLaws.{grand-is}
+use lib.IntN.{pos}
+use Rattle.times.proofs.TimeLaws.{moment-at, moment-end}
 use Rattle.times.proofs.grand.later.Statement.{statement}
 use Rattle.times.proofs.grand.later.Tie as tie
 
 add-total : tie.Need-add-total
 add-total c = search needs
 
-add-t5 : tie.Need-add-t5
-add-t5 c = search needs
+add-seconds : tie.Need-add-seconds
+add-seconds c = search needs
 
 returns : tie.Need-returns
-returns c = grand-is _ _ (omega arith) (omega arith)
+returns c = moment-at _ _ (record { seconds = omega arith; fraction = omega arith }) (ap pos (omega arith))
+
+returns-2 : tie.Need-returns-2
+returns-2 c = moment-end _ (omega arith)
 
 pub later-spec : {M : Type 1} → statement M
-later-spec = tie.close (tie.spec add-total add-t5 returns)
+later-spec = tie.close (tie.spec add-total add-seconds returns returns-2)

@@ -1,0 +1,3 @@
+pub mod Bound
+pub mod SentLaws
+pub mod PpmLaws

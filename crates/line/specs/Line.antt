@@ -1,0 +1,34 @@
+-- The line through the oldest and the newest kept sample: as it is read, and the exact one that demand 3 speaks of.
+use Prim.Native.Nat.{ℕ, _*_, _^_, _<_, _≤_}
+use lib.IntN.{ℤ, pos, natAbs, _+ℤ_, _-ℤ_, _*ℤ_}
+use Rattle.times.specs.Times.{units}
+use Rattle.samples.specs.Rate.{advanceOf}
+use Rattle.samples.specs.Keep.{spreadOf, riseOf, rateBetween}
+use Rattle.samples.specs.declared.Sample.{Sample}
+
+-- the line is read at most this far from the newest sample, before or after it
+abbrev pub longestReach : ℕ
+longestReach = 2 ^ 39
+
+-- a distance x from the newest sample at which it is read, and what is added to the reading: each is within that, and where both lead
+pub record InReach (x : ℤ) (more : ℕ) : Type 0 where
+  pub read : natAbs x ≤ longestReach
+  pub added : more ≤ longestReach
+  pub reached : natAbs (x +ℤ pos more) ≤ longestReach
+
+-- the grand time that is read x units of local time after the newest sample: g1 + x + floor(rate × x / 2^35)
+unfoldable pub readingAt : Sample → Sample → ℤ → ℤ
+readingAt a b x = pos (units (b .grand)) +ℤ advanceOf (rateBetween a b) x
+
+-- a reading lies less than this many units from the exact line
+abbrev pub bound : ℕ
+bound = 17
+
+-- S times the exact line's grand time, x units of local time after the newest sample: S × (g1 + (g1 - g0) / S × x)
+abbrev pub lineAt : Sample → Sample → ℤ → ℤ
+lineAt a b x = pos (spreadOf a b) *ℤ pos (units (b .grand)) +ℤ riseOf a b *ℤ x
+
+-- a grand time z lies less than `bound` from the line read at x, plus back: both sides times S
+abbrev pub NearLine : Sample → Sample → ℤ → ℤ → ℕ → Type 0
+NearLine a b z x back =
+    natAbs (pos (spreadOf a b) *ℤ z -ℤ (lineAt a b x +ℤ pos (spreadOf a b) *ℤ pos back)) < bound * spreadOf a b

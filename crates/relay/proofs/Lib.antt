@@ -1,4 +1,0 @@
-pub mod DelayLaws
-pub mod SentLaws
-pub mod Bound
-pub mod PpmLaws

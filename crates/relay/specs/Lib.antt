@@ -1,4 +1,0 @@
-pub mod Delay
-pub mod Sent
-pub mod Drift
-pub mod Line
