@@ -48,8 +48,8 @@ use Rattle.port.specs.declared.Preceding.{Preceding}
 use Rattle.port.specs.declared.Preceding.the-variants.{Never, Was}
 use Rattle.port.specs.declared.Port.{Port}
 use Rattle.port.specs.declared.OwnClock.{OwnClock}
-use Rattle.port.specs.declared.Received.{Received}
-use Rattle.port.specs.declared.OwnReading.{OwnReading}
+use Rattle.port.specs.declared.PortDone.{PortDone}
+use Rattle.port.specs.declared.ClockDone.{ClockDone}
 use Rattle.numbers.proofs.Places.{Bytes}
 use Rattle.numbers.proofs.Table.{held-at, held-parted}
 use Rattle.numbers.proofs.Branches.{if-true, if-false, if-when}
@@ -122,12 +122,12 @@ module _ (count : ℕ) (grand : GrandTime) (at : LocalTime) (clock : OwnClock) w
   own-reading-other e k = if-false _ (storedAs 0 (keptOf (clock .samples) true (ownSample grand _)) count at) (storedAs 8 (clock .samples) count at) (ne-eqb _ _ k) ∙ own-by e
 
 -- what is answered but 0 is 7, 8 or 9, and then only frameCount and arrival are stored
-pub record Noted (f : Fields) (at : LocalTime) (port : Port) (r : Received) : Type 0 where
+pub record Noted (f : Fields) (at : LocalTime) (port : Port) (r : PortDone) : Type 0 where
   pub least : 7 ≤ r .answer
   pub greatest : r .answer ≤ 9
   pub stored : r .port ≡ notedPort (f .count) at port
 
-abbrev RefusedNoted : Fields → LocalTime → Port → Received → Type 0
+abbrev RefusedNoted : Fields → LocalTime → Port → PortDone → Type 0
 RefusedNoted f at port r = (r .answer ≡ 0 → ⊥) → Noted f at port r
 
 pub received-refused : (setting : DelaySetting) (chosen : ℕ) (f : Fields) (at : LocalTime) (port : Port) → RefusedNoted f at port (receivedOf setting chosen f at port)
@@ -150,10 +150,10 @@ received-refused setting chosen f at port =
         (λ _ _. noted 8 (omega arith) (omega arith))
 
 -- the next frameCount of a port stays, whatever it hears
-abbrev SameCount : Port → Received → Type 0
-SameCount port r = r .port .next ≡ port .next
+abbrev SameCount : Port → PortDone → Type 0
+SameCount port r = r .port .count ≡ port .count
 
-pub received-count : (setting : DelaySetting) (chosen : ℕ) (f : Fields) (at : LocalTime) (port : Port) → receivedOf setting chosen f at port .port .next ≡ port .next
+pub received-count : (setting : DelaySetting) (chosen : ℕ) (f : Fields) (at : LocalTime) (port : Port) → receivedOf setting chosen f at port .port .count ≡ port .count
 unfolding receivedOf followedBy
 received-count setting chosen f at port = if-when (SameCount port) (eqb (f .hop) lastHop) (λ _. refl) (λ _. counted (port .preceding))
   where
@@ -168,20 +168,20 @@ received-count setting chosen f at port = if-when (SameCount port) (eqb (f .hop)
         (λ _. delayed (linkDelayOf setting (neighbourRateOf (port .pair) (f .local) p) (f .local) p (f .tx) (f .rx)) p)
         (λ _. refl)
 
-pub aged-count : (at : LocalTime) (timeout : ℕ) (port : Port) → agedPort at timeout port .next ≡ port .next
+pub aged-count : (at : LocalTime) (timeout : ℕ) (port : Port) → agedPort at timeout port .count ≡ port .count
 unfolding agedPort
 aged-count at timeout port = go (port .announcement)
   where
-    go : (h : Announcement) → agedBy h at timeout port .next ≡ port .next
+    go : (h : Announcement) → agedBy h at timeout port .count ≡ port .count
     go Silent = refl
-    go (Announced p h when) = if-when (λ (r : Port). r .next ≡ port .next) (ltb (sinceOf at when) timeout) (λ _. refl) (λ _. refl)
+    go (Announced p h when) = if-when (λ (r : Port). r .count ≡ port .count) (ltb (sinceOf at when) timeout) (λ _. refl) (λ _. refl)
 
 -- the same for a reading of the own clock: 8 alone, and the samples stay
-pub record NotedClock (count : ℕ) (at : LocalTime) (clock : OwnClock) (t : OwnReading) : Type 0 where
+pub record NotedClock (count : ℕ) (at : LocalTime) (clock : OwnClock) (t : ClockDone) : Type 0 where
   pub number : t .answer ≡ 8
   pub stored : t .clock ≡ record { preceding = Was count at; samples = clock .samples }
 
-abbrev RefusedClock : ℕ → LocalTime → OwnClock → OwnReading → Type 0
+abbrev RefusedClock : ℕ → LocalTime → OwnClock → ClockDone → Type 0
 RefusedClock count at clock t = (t .answer ≡ 0 → ⊥) → NotedClock count at clock t
 
 pub own-reading-refused : (count : ℕ) (grand : GrandTime) (at : LocalTime) (clock : OwnClock)
@@ -259,7 +259,7 @@ pub record ReadOff (samples : Samples) (t : LocalTime) (back : ℕ) (f : Fields)
 
 pub sending-read-off : (choice : Candidate) (samples : Samples) (mac : Mac) (back : ℕ) (t : LocalTime) (port : Port)
     → sendingNo (sendingOf choice samples mac back t port) ≡ 0
-    → (f : Fields) × (sendingOf choice samples mac back t port ≡ Frame f) × (f .count ≡ port .next) × ReadOff samples t back f
+    → (f : Fields) × (sendingOf choice samples mac back t port ≡ Frame f) × (f .count ≡ port .count) × ReadOff samples t back f
 unfolding sendingOf sentOf
 sending-read-off Nothing samples mac back t port e = absurd (omega arith)
 sending-read-off (Clock p h n) Empty mac back t port e = absurd (omega arith)
@@ -267,7 +267,7 @@ sending-read-off (Clock p h n) (One a) mac back t port e = absurd (omega arith)
 sending-read-off (Clock p h n) (Two a b) mac back t port e = by (sentOf (Two a b) t back) refl e
   where
     by : (s : Sent) → sentOf (Two a b) t back ≡ s → sendingNo (sendingBy s mac p h t port) ≡ 0
-        → (f : Fields) × (sendingBy (sentOf (Two a b) t back) mac p h t port ≡ Frame f) × (f .count ≡ port .next) × ReadOff (Two a b) t back f
+        → (f : Fields) × (sendingBy (sentOf (Two a b) t back) mac p h t port ≡ Frame f) × (f .count ≡ port .count) × ReadOff (Two a b) t back f
     by (At g x) q e = (
       frameOf mac p h t g x port,
       ap (λ (s : Sent). sendingBy s mac p h t port) q,
@@ -309,7 +309,7 @@ aged-lawful at timeout port l = go (port .announcement)
 noted-lawful : (count : ℕ) (at : LocalTime) (port : Port) (k : ℕ) → at .0 < circle → LawfulPort port → LawfulPort (refusedBy k count at port .port)
 noted-lawful count at port k h l = record { preceding = h; samples = l .samples; echo = l .echo }
 
-abbrev After : Received → Type 0
+abbrev After : PortDone → Type 0
 After r = LawfulPort (r .port)
 
 pub received-lawful : (setting : DelaySetting) (chosen : ℕ) (f : Fields) (at : LocalTime) (port : Port)
@@ -333,7 +333,7 @@ received-lawful setting chosen f at port h r l =
         (λ _. delayed (linkDelayOf setting (neighbourRateOf (port .pair) (f .local) p) (f .local) p (f .tx) (f .rx)) p t)
         (λ _. noted-lawful (f .count) at port 8 h l)
 
-abbrev Clocked : OwnReading → Type 0
+abbrev Clocked : ClockDone → Type 0
 Clocked t = LawfulClock (t .clock)
 
 pub own-reading-lawful : (count : ℕ) (grand : GrandTime) (at : LocalTime) (clock : OwnClock)
