@@ -16,7 +16,7 @@ use Rattle.numbers.proofs.Branches.{if-when}
 
 -- own clock first, then the ports
 abbrev pub candidates : Bridge → List Candidate
-candidates b = ownCandidate (b .capable) (b .own) ∷ candidatesFrom 1 (b .ports)
+candidates b = ownCandidate (b .setup .capable) (b .setup .own) ∷ candidatesFrom 1 (b .ports)
 
 -- x is no worse than y: y is no candidate, or both are and x has no greater rank
 abbrev pub NoWorse : Candidate → Candidate → Type 0
@@ -91,12 +91,12 @@ best-least a (c ∷ cs) x m =
 -- it is one of the candidates
 pub chosen-member : (b : Bridge) → List·Memᴰ (chosenOf b) (candidates b)
 unfolding chosenOf
-chosen-member b = best-member (ownCandidate (b .capable) (b .own)) (candidatesFrom 1 (b .ports))
+chosen-member b = best-member (ownCandidate (b .setup .capable) (b .setup .own)) (candidatesFrom 1 (b .ports))
 
 -- no candidate has a lesser rank
 pub chosen-least : (b : Bridge) (x : Candidate) → List·Memᴰ x (candidates b) → NoWorse (chosenOf b) x
 unfolding chosenOf
-chosen-least b x m = best-least (ownCandidate (b .capable) (b .own)) (candidatesFrom 1 (b .ports)) x m
+chosen-least b x m = best-least (ownCandidate (b .setup .capable) (b .setup .own)) (candidatesFrom 1 (b .ports)) x m
 
 -- it is none only if every candidate is none; where every candidate is none, it is one of them
 pub chosen-none : (b : Bridge) → chosenOf b ≡ Nothing → (x : Candidate) → List·Memᴰ x (candidates b) → x ≡ Nothing

@@ -18,13 +18,13 @@ use Rattle.line.specs.Line.{NearLine}
 use Rattle.frame.specs.Frame.{frameLength}
 use Rattle.frame.specs.Write.{bytesOf}
 use Rattle.frame.specs.declared.Fields.{Fields}
-use Rattle.port.specs.Send.{sendingNo}
+use Rattle.port.specs.Send.{sentBy, filledBy}
 use Rattle.port.specs.declared.Sending.{Sending}
 use Rattle.table.specs.Table.{portAt}
 use Rattle.table.specs.Arguments.{sendRefusal}
-use Rattle.bridge.specs.State.{Lawful, answers}
+use Rattle.bridge.specs.State.{Lawful, answers, storesPort}
 use Rattle.bridge.specs.Chosen.{chosenOf}
-use Rattle.bridge.specs.Send.{chosenSamples, composedOf, usedOf, sendOf, filledBy, sendBytes}
+use Rattle.bridge.specs.Send.{chosenSamples, sendingAt, sendOf, sendBytes}
 use Rattle.bridge.specs.declared.Bridge.{Bridge}
 use Rattle.line.proofs.SentLaws.{sent-near}
 use Rattle.frame.proofs.Trip.{grand-bytes, count-byte}
@@ -43,35 +43,33 @@ pub record OnLine (b : Bridge) (t : ℕ) (bytes : List ℕ) : Type 0 where
   pub older : Sample
   pub newer : Sample
   pub kept : endsOf (chosenSamples b) ≡ Both older newer
-  pub near : NearLine older newer (pos (numberAt bytes grandStart grandBytes)) (reachOf (sinceOf (record { 0 = t }) (newer .local)) (b .back)) (b .back)
+  pub near : NearLine older newer (pos (numberAt bytes grandStart grandBytes)) (reachOf (sinceOf (record { 0 = t }) (newer .local)) (b .setup .back)) (b .setup .back)
 
 -- what a send that answers 0 wrote: a frame that was composed, with the port's next frameCount
 pub record Wrote (b : Bridge) (port t : ℕ) (out : List ℕ) : Type 0 where
   pub fields : Fields
   pub bytes : sendBytes b port t out ≡ bytesOf fields (drop frameLength out)
-  pub count : fields .count ≡ portAt (b .ports) (port - 1) .next
-  pub read : ReadOff (chosenSamples b) (record { 0 = t }) (b .back) fields
+  pub count : fields .count ≡ portAt (b .ports) (port - 1) .count
+  pub read : ReadOff (chosenSamples b) (record { 0 = t }) (b .setup .back) fields
 
 pub wrote : (b : Bridge) (port t : ℕ) (out : List ℕ) → sendOf b port t (length out) .answer ≡ 0 → Wrote b port t out
-unfolding sendOf sendBytes composedOf
-wrote b port t out = go (eqb (sendRefusal (b .n) (b .links) port t (length out)) 0) refl
+unfolding sendOf sendBytes sendingAt
+wrote b port t out = go (eqb (sendRefusal (b .setup .n) (b .links) port t (length out)) 0) refl
   where
-    frame : (r : Bool) → eqb (sendRefusal (b .n) (b .links) port t (length out)) 0 ≡ r → r ≡ true → sendingNo (composedOf b (port - 1) (record { 0 = t })) ≡ 0 → Wrote b port t out
-    frame r q y z =
-        let s = sending-read-off (chosenOf b) (chosenSamples b) (b .mac) (b .back) (record { 0 = t }) (portAt (b .ports) (port - 1)) z in
-        record {
-          fields = s .0;
-          bytes =
-              ap (λ (x : Bool). cond x (filledBy (composedOf b (port - 1) (record { 0 = t })) out) out) (q ∙ y)
-              ∙ ap (λ (x : Sending). filledBy x out) (s .1);
-          count = s .2;
-          read = s .3;
-        }
+    s : Sending
+    s = sendingAt b (port - 1) (record { 0 = t })
 
-    go : (r : Bool) → eqb (sendRefusal (b .n) (b .links) port t (length out)) 0 ≡ r
-        → cond r (answers (sendingNo (composedOf b (port - 1) (record { 0 = t }))) (usedOf b (port - 1))) (answers (sendRefusal (b .n) (b .links) port t (length out)) b) .answer ≡ 0
+    go : (r : Bool) → eqb (sendRefusal (b .setup .n) (b .links) port t (length out)) 0 ≡ r
+        → cond r (storesPort b (port - 1) (sentBy s (portAt (b .ports) (port - 1)))) (answers (sendRefusal (b .setup .n) (b .links) port t (length out)) b) .answer ≡ 0
         → Wrote b port t out
-    go true q z = frame true q refl z
+    go true q z =
+        let f = sending-read-off (chosenOf b) (chosenSamples b) (b .setup .mac) (b .setup .back) (record { 0 = t }) (portAt (b .ports) (port - 1)) z in
+        record {
+          fields = f .0;
+          bytes = ap (λ (x : Bool). cond x (filledBy s out) out) q ∙ ap (λ (x : Sending). filledBy x out) (f .1);
+          count = f .2;
+          read = f .3;
+        }
     go false q z = absurd (eqb-false _ _ q z)
 
 -- DEMAND 3
@@ -88,13 +86,13 @@ sent-frame-near b port t out h e =
       newer = r .newest;
       kept = r .kept;
       near =
-          subst (λ (n : ℕ). NearLine (r .oldest) (r .newest) (pos n) (reachOf (sinceOf (record { 0 = t }) (r .newest .local)) (b .back)) (b .back)) number
-          (sent-near (chosenSamples b) (record { 0 = t }) (b .back) (f .grand) (f .error) r lawful (h .back-small));
+          subst (λ (n : ℕ). NearLine (r .oldest) (r .newest) (pos n) (reachOf (sinceOf (record { 0 = t }) (r .newest .local)) (b .setup .back)) (b .setup .back)) number
+          (sent-near (chosenSamples b) (record { 0 = t }) (b .setup .back) (f .grand) (f .error) r lawful (h .back-small));
     }
 
 -- byte 30 of a frame that was sent is the port's next frameCount
-pub sent-frame-count : (b : Bridge) (port t : ℕ) (out : List ℕ) → portAt (b .ports) (port - 1) .next < 256 → sendOf b port t (length out) .answer ≡ 0
-    → numberAt (sendBytes b port t out) 30 1 ≡ portAt (b .ports) (port - 1) .next
+pub sent-frame-count : (b : Bridge) (port t : ℕ) (out : List ℕ) → portAt (b .ports) (port - 1) .count < 256 → sendOf b port t (length out) .answer ≡ 0
+    → numberAt (sendBytes b port t out) 30 1 ≡ portAt (b .ports) (port - 1) .count
 sent-frame-count b port t out h e =
     let w = wrote b port t out e in
     ap (λ (l : List ℕ). numberAt l 30 1) (w .bytes) ∙ count-byte (w .fields) (drop frameLength out) (subst (λ (n : ℕ). n < 256) (sym (w .count)) h) ∙ w .count

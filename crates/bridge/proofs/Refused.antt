@@ -7,27 +7,26 @@ use native.Mathlib.Omega.{arith}
 use lib.Dec.{eqb, leb, ltb}
 use lib.ListN.{length}
 use Rattle.times.specs.Times.{circle, second}
-use Rattle.choice.specs.declared.Precedence.{Precedence}
 use Rattle.frame.specs.Read.{unless, readOf}
 use Rattle.frame.specs.declared.Fields.{Fields}
-use Rattle.frame.specs.declared.Mac.{Mac}
 use Rattle.frame.specs.declared.Reading.{Reading}
 use Rattle.frame.specs.declared.Reading.the-variants as Readings
+use Rattle.port.specs.Record.{usedPort}
 use Rattle.port.specs.Receive.{notedPort}
-use Rattle.port.specs.Send.{sendingNo}
+use Rattle.port.specs.Send.{sendingNo, sentBy, filledBy}
 use Rattle.port.specs.declared.Preceding.the-variants.{Was}
-use Rattle.port.specs.declared.Setting.{Setting}
 use Rattle.port.specs.declared.Sending.{Sending}
 use Rattle.table.specs.Table.{portAt}
 use Rattle.table.specs.Arguments.{portRefusal, sendRefusal, ownClockRefusal, maskBeyond}
 use Rattle.table.specs.Fits.{setupFits}
-use Rattle.bridge.specs.State.{withPort, withClock, answers}
+use Rattle.table.specs.declared.Setup.{Setup}
+use Rattle.bridge.specs.State.{withPort, withClock, answers, storesPort}
 use Rattle.bridge.specs.Setup.{noBridge, setupOf}
 use Rattle.bridge.specs.Links.{linksOf}
 use Rattle.bridge.specs.Own.{ownClockOf}
 use Rattle.bridge.specs.Receive.{readBy, receiveFieldsOf, receiveOf}
 use Rattle.bridge.specs.Age.{ageOf}
-use Rattle.bridge.specs.Send.{composedOf, usedOf, sendOf, filledBy, sendBytes}
+use Rattle.bridge.specs.Send.{sendingAt, sendOf, sendBytes}
 use Rattle.bridge.specs.declared.Bridge.{Bridge}
 use Rattle.bridge.specs.declared.Done.{Done}
 use Rattle.bridge.specs.declared.Linked.{Linked}
@@ -37,17 +36,15 @@ use Rattle.port.proofs.PortLaws.{received-refused, own-reading-refused, NoFrame
 use Rattle.table.proofs.CheckLaws.{port-most, send-most}
 
 -- setup, 1: what stands for no state
-pub setup-none : (n : ℕ) (mac : Mac) (own : Precedence) (capable : Bool) (timeout back : ℕ) (settings : List Setting)
-    → (setupOf n mac own capable timeout back settings .answer ≡ 0 → ⊥) → setupOf n mac own capable timeout back settings .next ≡ noBridge
+pub setup-none : (s : Setup) → (setupOf s .answer ≡ 0 → ⊥) → setupOf s .next ≡ noBridge
 unfolding setupOf
-setup-none n mac own capable timeout back settings =
-    if-when (λ (d : Done). (d .answer ≡ 0 → ⊥) → d .next ≡ noBridge) (setupFits n timeout back settings) (λ _ z. absurd (z refl)) (λ _ _. refl)
+setup-none s = if-when (λ (d : Done). (d .answer ≡ 0 → ⊥) → d .next ≡ noBridge) (setupFits s) (λ _ z. absurd (z refl)) (λ _ _. refl)
 
 -- links, 2: nothing
 pub links-keeps : (b : Bridge) (mask : ℕ) → linksOf b mask .answer ≡ Refused → linksOf b mask .next ≡ b
 unfolding linksOf
 links-keeps b mask =
-    if-when (λ (d : Linked). d .answer ≡ Refused → d .next ≡ b) (maskBeyond (b .n) mask) (λ _ _. refl)
+    if-when (λ (d : Linked). d .answer ≡ Refused → d .next ≡ b) (maskBeyond (b .setup .n) mask) (λ _ _. refl)
     (λ _ e. let z : _≡_ {A = ℕ} 0 1 = cc in absurd (omega arith))
 
 -- age, 2: nothing
@@ -75,11 +72,11 @@ own-number capable seconds fraction at = by (ltb seconds second) (ltb fraction s
 pub own-keeps : (b : Bridge) (count seconds fraction at : ℕ) → OwnKeeps b count at (ownClockOf b count seconds fraction at)
 unfolding ownClockOf
 own-keeps b count seconds fraction at =
-    if-when (OwnKeeps b count at) (eqb (ownClockRefusal (b .capable) seconds fraction at) 0)
+    if-when (OwnKeeps b count at) (eqb (ownClockRefusal (b .setup .capable) seconds fraction at) 0)
     (λ _.
     let t = own-reading-refused count (record { 0 = seconds; 1 = fraction }) (record { 0 = at }) (b .clock) in
     record { early = λ z n. absurd (n (t z .number)); late = λ e. ap (withClock b) (t (λ z. omega arith) .stored) })
-    (λ _. record { early = λ _ _. refl; late = λ e. absurd (own-number (b .capable) seconds fraction at e) })
+    (λ _. record { early = λ _ _. refl; late = λ e. absurd (own-number (b .setup .capable) seconds fraction at e) })
 
 -- receive, 2 to 6: nothing; 7 to 9: frameCount and arrival, as the next p and not as heard-at
 pub record ReceiveKeeps (b : Bridge) (port : ℕ) (frame : List ℕ) (arrival : ℕ) (d : Done) : Type 0 where
@@ -90,9 +87,9 @@ pub record ReceiveKeeps (b : Bridge) (port : ℕ) (frame : List ℕ) (arrival : 
 pub receive-keeps : (b : Bridge) (port : ℕ) (frame : List ℕ) (arrival : ℕ) → ReceiveKeeps b port frame arrival (receiveOf b port frame arrival)
 unfolding receiveOf receiveFieldsOf
 receive-keeps b port frame arrival =
-    if-when (ReceiveKeeps b port frame arrival) (eqb (portRefusal (b .n) (b .links) port arrival) 0)
+    if-when (ReceiveKeeps b port frame arrival) (eqb (portRefusal (b .setup .n) (b .links) port arrival) 0)
     (λ _. by (readOf frame) refl)
-    (λ _. record { early = λ _ _. refl; late = λ f e l. absurd (omega (arith, port-most (b .n) (b .links) port arrival)) })
+    (λ _. record { early = λ _ _. refl; late = λ f e l. absurd (omega (arith, port-most (b .setup .n) (b .links) port arrival)) })
   where
     by : (r : Reading) → readOf frame ≡ r → ReceiveKeeps b port frame arrival (readBy b (port - 1) r (record { 0 = arrival }))
     by (Readings.Refused k) q = record { early = λ _ _. refl; late = λ f e l. let z : _≡_ {A = ℕ} 0 1 = cc in absurd (omega arith) }
@@ -106,25 +103,22 @@ receive-keeps b port frame arrival =
 -- send, 2 to 4: nothing; 10 to 13: the port's next frameCount; and no refusal touches the output
 pub record SendKeeps (b : Bridge) (port t : ℕ) (out : List ℕ) (d : Done) (left : List ℕ) : Type 0 where
   pub early : (d .answer ≡ 0 → ⊥) → d .answer ≤ 4 → d .next ≡ b
-  pub late : 5 ≤ d .answer → d .next ≡ usedOf b (port - 1)
+  pub late : 5 ≤ d .answer → d .next ≡ withPort b (port - 1) (usedPort (portAt (b .ports) (port - 1)))
   pub output : (d .answer ≡ 0 → ⊥) → left ≡ out
 
--- a send that came as far as the choice, with what it composes
-composed-keeps : (b : Bridge) (port t : ℕ) (out : List ℕ) (s : Sending) → ((sendingNo s ≡ 0 → ⊥) → NoFrame s)
-    → SendKeeps b port t out (answers (sendingNo s) (usedOf b (port - 1))) (filledBy s out)
-composed-keeps b port t out s n = record {
-  early = λ z l. absurd (omega (arith, n z .least));
-  late = λ _. refl;
-  output = λ z. ap (λ (x : Sending). filledBy x out) (n z .none);
-}
-
 pub send-keeps : (b : Bridge) (port t : ℕ) (out : List ℕ) → SendKeeps b port t out (sendOf b port t (length out)) (sendBytes b port t out)
-unfolding sendOf sendBytes composedOf
-send-keeps b port t out = go (eqb (sendRefusal (b .n) (b .links) port t (length out)) 0)
+unfolding sendOf sendBytes sendingAt
+send-keeps b port t out = go (eqb (sendRefusal (b .setup .n) (b .links) port t (length out)) 0)
   where
+    s : Sending
+    s = sendingAt b (port - 1) (record { 0 = t })
+
+    n : (sendingNo s ≡ 0 → ⊥) → NoFrame s
+    n = sending-refused _ _ _ _ _ _
+
     go : (r : Bool)
         → SendKeeps b port t out
-        (cond r (answers (sendingNo (composedOf b (port - 1) (record { 0 = t }))) (usedOf b (port - 1))) (answers (sendRefusal (b .n) (b .links) port t (length out)) b))
-        (cond r (filledBy (composedOf b (port - 1) (record { 0 = t })) out) out)
-    go true = composed-keeps b port t out _ (sending-refused _ _ _ _ _ _)
-    go false = record { early = λ _ _. refl; late = λ l. absurd (omega (arith, send-most (b .n) (b .links) port t (length out))); output = λ _. refl }
+        (cond r (storesPort b (port - 1) (sentBy s (portAt (b .ports) (port - 1)))) (answers (sendRefusal (b .setup .n) (b .links) port t (length out)) b))
+        (cond r (filledBy s out) out)
+    go true = record { early = λ z l. absurd (omega (arith, n z .least)); late = λ _. refl; output = λ z. ap (λ (x : Sending). filledBy x out) (n z .none) }
+    go false = record { early = λ _ _. refl; late = λ l. absurd (omega (arith, send-most (b .setup .n) (b .links) port t (length out))); output = λ _. refl }

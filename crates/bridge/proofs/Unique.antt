@@ -1,20 +1,17 @@
 -- Two outcomes that a contract allows are equal, for each of the eleven public calls.
 use mathlib.Core.Path.{_≡_, sym, _∙_}
-use mathlib.Core.Bool.{Bool}
 use mathlib.Core.List.{List}
 use Prim.Native.Nat.{ℕ}
 use lib.ListN.{length}
 use denote.Ref.{RefT}
 use Rattle.line.specs.declared.Drift.{Drift}
-use Rattle.choice.specs.declared.Precedence.{Precedence}
 use Rattle.choice.specs.declared.Candidate.{Candidate}
 use Rattle.frame.specs.Read.{readOf}
 use Rattle.frame.specs.Write.{writeRefusal, writtenOf}
 use Rattle.frame.specs.Better.{lies, betterPartOf}
 use Rattle.frame.specs.declared.Fields.{Fields}
-use Rattle.frame.specs.declared.Mac.{Mac}
 use Rattle.frame.specs.declared.Reading.{Reading}
-use Rattle.port.specs.declared.Setting.{Setting}
+use Rattle.table.specs.declared.Setup.{Setup}
 use Rattle.bridge.specs.Setup.{setupOf}
 use Rattle.bridge.specs.Links.{linksOf}
 use Rattle.bridge.specs.Own.{ownClockOf}
@@ -43,9 +40,8 @@ write-one f out left left' k k' p q = (one (p .0) (q .0), one (p .1) (q .1))
 pub better-one : (a b x y : RefT (List ℕ)) → lies x ≡ betterPartOf a b → lies y ≡ betterPartOf a b → lies x ≡ lies y
 better-one a b x y p q = one p q
 
-pub setup-one : (n : ℕ) (mac : Mac) (own : Precedence) (capable : Bool) (timeout back : ℕ) (settings : List Setting) (x y : Done)
-    → x ≡ setupOf n mac own capable timeout back settings → y ≡ setupOf n mac own capable timeout back settings → x ≡ y
-setup-one n mac own capable timeout back settings x y p q = one p q
+pub setup-one : (s : Setup) (x y : Done) → x ≡ setupOf s → y ≡ setupOf s → x ≡ y
+setup-one s x y p q = one p q
 
 pub links-one : (b : Bridge) (mask : ℕ) (x y : Linked) → x ≡ linksOf b mask → y ≡ linksOf b mask → x ≡ y
 links-one b mask x y p q = one p q

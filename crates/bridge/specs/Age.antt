@@ -13,4 +13,4 @@ use Rattle.bridge.specs.declared.Done.{Done}
 -- 2 for a local time out of range; else every port ages, and the own clock does not
 unfoldable pub ageOf : Bridge → ℕ → Done
 ageOf b at =
-    cond (leb circle at) (answers outOfRange b) (answers done (withPorts b (each (λ _. agedPort (record { 0 = at }) (b .timeout)) 0 (b .ports))))
+    cond (leb circle at) (answers outOfRange b) (answers done (withPorts b (each (λ _. agedPort (record { 0 = at }) (b .setup .timeout)) 0 (b .ports))))

@@ -5,4 +5,4 @@ use Rattle.bridge.specs.declared.Bridge.{Bridge}
 
 -- the best clock of the whole state, or none
 unfoldable pub chosenOf : Bridge → Candidate
-chosenOf b = choiceOf (b .capable) (b .own) (b .ports)
+chosenOf b = choiceOf (b .setup .capable) (b .setup .own) (b .ports)

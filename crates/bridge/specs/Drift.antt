@@ -10,4 +10,4 @@ use Rattle.bridge.specs.declared.Bridge.{Bridge}
 
 -- of the own clock, 0, or of a port
 unfoldable pub driftAt : Bridge → ℕ → Drift
-driftAt b port = cond (ltb (b .n) port) Refused (driftOf (samplesAt port (b .clock) (b .ports)))
+driftAt b port = cond (ltb (b .setup .n) port) Refused (driftOf (samplesAt port (b .clock) (b .ports)))

@@ -14,7 +14,7 @@ use Rattle.bridge.specs.declared.LinkCount.the-variants.{Refused, Up}
 -- the answer is how many bits of the mask are set
 unfoldable pub linksOf : Bridge → ℕ → Linked
 linksOf b mask =
-    cond (maskBeyond (b .n) mask) (linked Refused b) (linked (Up (ones mask)) (withLinks b mask (each (relinkedPort (b .links) mask) 0 (b .ports))))
+    cond (maskBeyond (b .setup .n) mask) (linked Refused b) (linked (Up (ones mask)) (withLinks b mask (each (relinkedPort (b .links) mask) 0 (b .ports))))
 
 -- the answer's number and value
 abbrev pub linkNo : LinkCount → ℕ

@@ -1,16 +1,13 @@
 -- Setup.
-use mathlib.Core.Bool.{Bool, false, cond}
-use mathlib.Core.List.{List}
+use mathlib.Core.Bool.{cond}
 use Prim.Native.Nat.{ℕ, _^_}
 use lib.ListN.{replicate}
 use Rattle.refusals.specs.Refusals.{done, badSetup}
-use Rattle.choice.specs.declared.Precedence.{Precedence}
-use Rattle.frame.specs.declared.Mac.{Mac}
 use Rattle.port.specs.Record.{emptyPort, emptyClock}
-use Rattle.port.specs.declared.Setting.{Setting}
 use Rattle.table.specs.Table.{mostPorts}
-use Rattle.table.specs.Fits.{setupFits, measuredSetting}
-use Rattle.bridge.specs.State.{answers}
+use Rattle.table.specs.Fits.{setupFits, noSetup}
+use Rattle.table.specs.declared.Setup.{Setup}
+use Rattle.bridge.specs.State.{stateOf, answers}
 use Rattle.bridge.specs.declared.Bridge.{Bridge}
 use Rattle.bridge.specs.declared.Done.{Done}
 
@@ -22,30 +19,12 @@ abbrev pub defaultBack : ℕ
 defaultBack = 10995116278
 
 -- all links are down and all records empty
-abbrev pub freshOf : ℕ → Mac → Precedence → Bool → ℕ → ℕ → List Setting → Bridge
-freshOf n mac own capable timeout back settings = record {
-  n = n;
-  mac = mac;
-  own = own;
-  capable = capable;
-  timeout = timeout;
-  back = back;
-  settings = settings;
-  links = 0;
-  clock = emptyClock;
-  ports = replicate mostPorts emptyPort;
-}
+abbrev pub freshOf : Setup → Bridge
+freshOf s = stateOf s 0 emptyClock (replicate mostPorts emptyPort)
 
 -- what stands for no state: no port, no own clock
-abbrev pub noMac : Mac
-noMac = record { 0 = 0; 1 = 0; 2 = 0; 3 = 0; 4 = 0; 5 = 0 }
-
-abbrev pub noPrecedence : Precedence
-noPrecedence = record { priority1 = 0; source = 0; variance = 0; priority2 = 0; clock = 0 }
-
 abbrev pub noBridge : Bridge
-noBridge = freshOf 0 noMac noPrecedence false 0 0 (replicate mostPorts measuredSetting)
+noBridge = freshOf noSetup
 
-unfoldable pub setupOf : ℕ → Mac → Precedence → Bool → ℕ → ℕ → List Setting → Done
-setupOf n mac own capable timeout back settings =
-    cond (setupFits n timeout back settings) (answers done (freshOf n mac own capable timeout back settings)) (answers badSetup noBridge)
+unfoldable pub setupOf : Setup → Done
+setupOf s = cond (setupFits s) (answers done (freshOf s)) (answers badSetup noBridge)

@@ -1,13 +1,18 @@
 -- The state: what holds of every state that Setup or a call hands back, and a state with one part changed.
 use mathlib.Core.Path.{_≡_}
+use mathlib.Core.Bool.{cond}
 use mathlib.Core.List.{List}
 use Prim.Native.Nat.{ℕ, _^_, _<_, _≤_}
+use lib.Dec.{eqb}
 use lib.ListN.{length, set}
 use Rattle.line.specs.Sent.{longestElapsed}
 use Rattle.port.specs.Lawful.{LawfulPort, LawfulClock}
 use Rattle.port.specs.declared.Port.{Port}
 use Rattle.port.specs.declared.OwnClock.{OwnClock}
+use Rattle.port.specs.declared.PortDone.{PortDone}
+use Rattle.port.specs.declared.ClockDone.{ClockDone}
 use Rattle.table.specs.Table.{portAt, mostPorts}
+use Rattle.table.specs.declared.Setup.{Setup}
 use Rattle.bridge.specs.declared.Bridge.{Bridge}
 use Rattle.bridge.specs.declared.Done.{Done}
 use Rattle.bridge.specs.declared.Linked.{Linked}
@@ -15,61 +20,44 @@ use Rattle.bridge.specs.declared.LinkCount.{LinkCount}
 
 pub record Lawful (b : Bridge) : Type 0 where
   pub records : length (b .ports) ≡ mostPorts
-  pub delays : length (b .settings) ≡ mostPorts
-  pub ports-most : b .n ≤ mostPorts
-  pub links-most : b .links < 2 ^ b .n
-  pub back-small : b .back < longestElapsed
+  pub delays : length (b .setup .settings) ≡ mostPorts
+  pub ports-most : b .setup .n ≤ mostPorts
+  pub links-most : b .links < 2 ^ b .setup .n
+  pub back-small : b .setup .back < longestElapsed
   pub clock-lawful : LawfulClock (b .clock)
   pub ports-lawful : (i : ℕ) → LawfulPort (portAt (b .ports) i)
 
+-- a state by its parts: every state that is made or changed is made here
+abbrev pub stateOf : Setup → ℕ → OwnClock → List Port → Bridge
+stateOf setup links clock ports = record { setup = setup; links = links; clock = clock; ports = ports }
+
 -- a state with other records, another own clock, other links
 abbrev pub withPorts : Bridge → List Port → Bridge
-withPorts b ports = record {
-  n = b .n;
-  mac = b .mac;
-  own = b .own;
-  capable = b .capable;
-  timeout = b .timeout;
-  back = b .back;
-  settings = b .settings;
-  links = b .links;
-  clock = b .clock;
-  ports = ports;
-}
+withPorts b ports = stateOf (b .setup) (b .links) (b .clock) ports
 
 abbrev pub withPort : Bridge → ℕ → Port → Bridge
 withPort b i port = withPorts b (set (b .ports) i port)
 
 abbrev pub withClock : Bridge → OwnClock → Bridge
-withClock b clock = record {
-  n = b .n;
-  mac = b .mac;
-  own = b .own;
-  capable = b .capable;
-  timeout = b .timeout;
-  back = b .back;
-  settings = b .settings;
-  links = b .links;
-  clock = clock;
-  ports = b .ports;
-}
+withClock b clock = stateOf (b .setup) (b .links) clock (b .ports)
 
 abbrev pub withLinks : Bridge → ℕ → List Port → Bridge
-withLinks b mask ports = record {
-  n = b .n;
-  mac = b .mac;
-  own = b .own;
-  capable = b .capable;
-  timeout = b .timeout;
-  back = b .back;
-  settings = b .settings;
-  links = mask;
-  clock = b .clock;
-  ports = ports;
-}
+withLinks b mask ports = stateOf (b .setup) mask (b .clock) ports
 
+-- what a call answers, and the next state
 abbrev pub answers : ℕ → Bridge → Done
 answers k b = record { answer = k; next = b }
 
 abbrev pub linked : LinkCount → Bridge → Linked
 linked k b = record { answer = k; next = b }
+
+-- what a port or the own clock answers, with its record stored
+abbrev pub storesPort : Bridge → ℕ → PortDone → Done
+storesPort b i done = answers (done .answer) (withPort b i (done .port))
+
+abbrev pub storesClock : Bridge → ClockDone → Done
+storesClock b done = answers (done .answer) (withClock b (done .clock))
+
+-- a refusal found before any record is looked at stores nothing; where it is 0, the call goes on
+abbrev pub refusedOr : Bridge → ℕ → Done → Done
+refusedOr b k done = cond (eqb k 0) done (answers k b)

@@ -10,22 +10,19 @@ ghost use Rattle.bridge.specs.Own.{ownClockOf};
 ghost use Rattle.bridge.specs.Receive.{receiveFieldsOf, receiveOf};
 ghost use Rattle.bridge.specs.Age.{ageOf};
 ghost use Rattle.bridge.specs.Chosen.{chosenOf};
-ghost use Rattle.bridge.specs.Send.{composedOf, usedOf, sendOf, sendBytes};
+ghost use Rattle.bridge.specs.Send.{sendOf, sendBytes};
 ghost use Rattle.bridge.specs.Drift.{driftAt};
 use choice::Candidate;
-use choice::Precedence;
 use choice::candidates;
 use frame::Fields;
-use frame::Mac;
 use frame::Reading;
 use frame::read;
 use line::Drift;
 use line::ppm;
 use port::OwnClock;
 use port::Port;
-use port::Sending;
-use port::Setting;
 use port::record;
+use table::Setup;
 use table::arguments;
 use table::records;
 use times::GrandTime;
@@ -38,13 +35,7 @@ pub const DEFAULT_BACK: u64 = 10_995_116_278;
 
 // The whole state: what Setup was given, the links, the own clock's record and the ports' records.
 pub struct Bridge {
-    pub n: u8,
-    pub mac: Mac,
-    pub own: Precedence,
-    pub capable: bool,
-    pub timeout: u64,
-    pub back: u64,
-    pub settings: [Setting; 8],
+    pub setup: Setup,
     pub links: u8,
     pub clock: OwnClock,
     pub ports: [Port; 8],
@@ -69,27 +60,13 @@ pub struct Linked {
 }
 
 // A state with this setup, all links down and all records empty.
-fn fresh(
-    n: u8,
-    mac: Mac,
-    own: Precedence,
-    capable: bool,
-    timeout: u64,
-    back: u64,
-    settings: [Setting; 8],
-) -> Bridge
-    ensures { λ r. ⌜ r ≡ freshOf n mac own capable timeout back settings ⌝ }
+fn fresh(s: Setup) -> Bridge
+    ensures { λ r. ⌜ r ≡ freshOf s ⌝ }
 {
     let clock = record::empty_clock();
     let port = record::empty();
     Bridge {
-        n: n,
-        mac: mac,
-        own: own,
-        capable: capable,
-        timeout: timeout,
-        back: back,
-        settings: settings,
+        setup: s,
         links: 0,
         clock: clock,
         ports: [port; 8],
@@ -97,35 +74,19 @@ fn fresh(
 }
 
 // Setup: 0 and the first state, or 1 and the state that stands for none, which has no port and no own clock.
-pub fn setup(
-    n: u8,
-    mac: Mac,
-    own: Precedence,
-    capable: bool,
-    timeout: u64,
-    back: u64,
-    settings: [Setting; 8],
-) -> Done
-    ensures { λ r. ⌜ r ≡ setupOf n mac own capable timeout back settings ⌝ }
+pub fn setup(given: Setup) -> Done
+    ensures { λ r. ⌜ r ≡ setupOf given ⌝ }
     ensures { λ r. ⌜ Lawful (r .next) ⌝ }
 {
-    if arguments::setup_fits(n, timeout, back, settings) {
+    if arguments::setup_fits(given) {
         return Done {
             answer: refusals::DONE,
-            next: fresh(n, mac, own, capable, timeout, back, settings),
+            next: fresh(given),
         };
     }
-    let nobody = Mac(0, 0, 0, 0, 0, 0);
-    let least = Precedence {
-        priority1: 0,
-        source: 0,
-        variance: 0,
-        priority2: 0,
-        clock: 0,
-    };
     Done {
         answer: refusals::BAD_SETUP,
-        next: fresh(0, nobody, least, false, 0, 0, records::measured_settings()),
+        next: fresh(records::plain_setup(0, 0, 0)),
     }
 }
 
@@ -135,7 +96,7 @@ pub fn links(b: Bridge, mask: u8) -> Linked
     ensures { λ r. ⌜ r ≡ linksOf b mask ⌝ }
     ensures { λ r. ⌜ Lawful (r .next) ⌝ }
 {
-    if arguments::beyond(b.n, mask) {
+    if arguments::beyond(b.setup.n, mask) {
         return Linked {
             answer: LinkCount::Refused,
             next: b,
@@ -158,7 +119,7 @@ pub fn own_clock(b: Bridge, count: u8, seconds: u64, fraction: u64, at: u64) -> 
     ensures { λ r. ⌜ r ≡ ownClockOf b count seconds fraction at ⌝ }
     ensures { λ r. ⌜ Lawful (r .next) ⌝ }
 {
-    let refusal = arguments::own_clock_refusal(b.capable, seconds, fraction, at);
+    let refusal = arguments::own_clock_refusal(b.setup.capable, seconds, fraction, at);
     if refusal != refusals::DONE {
         return Done {
             answer: refusal,
@@ -188,11 +149,12 @@ fn receive_fields(mut b: Bridge, i: usize, f: Fields, at: LocalTime) -> Done
     requires { ⌜ FieldsInRange f ⌝ }
     ensures { λ r. ⌜ r ≡ receiveFieldsOf b i f at ⌝ }
 {
-    let own = b.own;
+    let own = b.setup.own;
     let ports = b.ports;
-    let hop = candidates::chosen_hop(records::choice(b.capable, own, ports));
+    let hop = candidates::chosen_hop(records::choice(b.setup.capable, own, ports));
     let port = b.ports[i];
-    let setting = b.settings[i];
+    let setup = b.setup;
+    let setting = setup.settings[i];
     let delay = setting.delay;
     let received = port::receive::receive(port, delay, hop, f, at);
     let after = received.port;
@@ -209,7 +171,7 @@ pub fn receive(b: Bridge, port: u8, frame: &[u8], arrival: u64) -> Done
     ensures { λ r. ⌜ r ≡ receiveOf b port (now (frame .entry)) arrival ⌝ }
     ensures { λ r. ⌜ Lawful (r .next) ⌝ }
 {
-    let refusal = arguments::port_refusal(b.n, b.links, port, arrival);
+    let refusal = arguments::port_refusal(b.setup.n, b.links, port, arrival);
     if refusal != refusals::DONE {
         return Done {
             answer: refusal,
@@ -238,7 +200,7 @@ pub fn age(b: Bridge, at: u64) -> Done
         };
     }
     let ports = b.ports;
-    let after = records::aged(ports, LocalTime(at), b.timeout);
+    let after = records::aged(ports, LocalTime(at), b.setup.timeout);
     let mut next = b;
     next.ports = after;
     Done {
@@ -252,58 +214,39 @@ pub fn chosen(b: Bridge) -> Candidate
     requires { ⌜ Lawful b ⌝ }
     ensures { λ r. ⌜ r ≡ chosenOf b ⌝ }
 {
-    let own = b.own;
+    let own = b.setup.own;
     let ports = b.ports;
-    records::choice(b.capable, own, ports)
-}
-
-// The frame that the port at index i sends at t, or why it sends none.
-fn composed(b: Bridge, i: usize, t: LocalTime) -> Sending
-    requires { ⌜ Lawful b ⌝ }
-    requires { ⌜ i < 8 ⌝ }
-    ensures { λ r. ⌜ r ≡ composedOf b i t ⌝ }
-{
-    let own = b.own;
-    let ports = b.ports;
-    let choice = records::choice(b.capable, own, ports);
-    let clock = b.clock;
-    let mac = b.mac;
-    let port = b.ports[i];
-    let samples = records::samples_of_choice(choice, clock, ports);
-    port::send::composed(choice, samples, mac, b.back, t, port)
-}
-
-// The state once the port at index i has used up its next frameCount.
-fn used(b: Bridge, i: usize) -> Bridge
-    requires { ⌜ Lawful b ⌝ }
-    requires { ⌜ i < 8 ⌝ }
-    ensures { λ r. ⌜ r ≡ usedOf b i ⌝ }
-{
-    let port = b.ports[i];
-    let mut next = b;
-    next.ports[i] = record::used(port);
-    next
+    records::choice(b.setup.capable, own, ports)
 }
 
 // Send: fills the output with the port's next frame, whose preceding one departed at t.
-pub fn send(b: Bridge, port: u8, t: u64, out: &mut [u8]) -> Done
+pub fn send(mut b: Bridge, port: u8, t: u64, out: &mut [u8]) -> Done
     requires { ⌜ Lawful b ⌝ }
     ensures { λ r. ⌜ r ≡ sendOf b port t (length (now (out .entry))) ⌝ }
     ensures { λ _. ⌜ now (out .exit) ≡ sendBytes b port t (now (out .entry)) ⌝ }
     ensures { λ r. ⌜ Lawful (r .next) ⌝ }
 {
-    let refusal = arguments::send_refusal(b.n, b.links, port, t, out.len());
+    let refusal = arguments::send_refusal(b.setup.n, b.links, port, t, out.len());
     if refusal != refusals::DONE {
         return Done {
             answer: refusal,
             next: b,
         };
     }
+    let own = b.setup.own;
+    let mac = b.setup.mac;
+    let clock = b.clock;
+    let ports = b.ports;
+    let choice = records::choice(b.setup.capable, own, ports);
+    let samples = records::samples_of_choice(choice, clock, ports);
     let i = (port - 1) as usize;
-    let answer = port::send::delivered(composed(b, i, LocalTime(t)), out);
+    let held = b.ports[i];
+    let sent = port::send::send(held, choice, samples, mac, b.setup.back, LocalTime(t), out);
+    let after = sent.port;
+    b.ports[i] = after;
     Done {
-        answer: answer,
-        next: used(b, i),
+        answer: sent.answer,
+        next: b,
     }
 }
 
@@ -312,7 +255,7 @@ pub fn drift(b: Bridge, port: u8) -> Drift
     requires { ⌜ Lawful b ⌝ }
     ensures { λ r. ⌜ r ≡ driftAt b port ⌝ }
 {
-    if b.n < port {
+    if b.setup.n < port {
         return Drift::Refused;
     }
     let clock = b.clock;

@@ -8,12 +8,11 @@ use native.Mathlib.Omega.{arith}
 use lib.Dec.{ltb, leb, eqb}
 use lib.ListN.{length, drop, getD}
 use borrow.Author.Tests.{eq-eqb, ne-eqb, eqb-true, eqb-false, ltb-true, leb-true, lt-ltb, le-leb}
-use Rattle.numbers.specs.Table.{joined}
 use Rattle.choice.specs.Hop.{lastHop}
 use Rattle.times.specs.Times.{second, circle}
 use Rattle.choice.specs.Precedence.{keyOf}
 use Rattle.choice.specs.declared.Precedence.{Precedence}
-use Rattle.frame.specs.Frame.{frameLength, stationAddress, localExperimental, timeSync, firstVersion, widths, valuesOf, fieldsOf}
+use Rattle.frame.specs.Frame.{frameLength, stationAddress, localExperimental, timeSync, firstVersion, fieldsOf}
 use Rattle.frame.specs.Read.{unless, rowsOf, constantsRefusal, readRefusal, readAs, readOf}
 use Rattle.frame.specs.Write.{writeRefusal, bytesOf, writtenAs, writtenOf}
 use Rattle.frame.specs.Better.{standingBy, standingOf, winnerOf}
@@ -139,8 +138,8 @@ unrefused f n w =
     (past _ 4 (le-leb _ _ (w .room)) refl))))))
 
 -- what the refusal k makes of the output
-pub filled : (f : Fields) (k : ℕ) (out : List ℕ) → k ≡ writeRefusal f (length out) → k ≡ 0 → joined widths (valuesOf f) (drop frameLength out) ≡ writtenOf f out
-unfolding bytesOf writtenOf
+pub filled : (f : Fields) (k : ℕ) (out : List ℕ) → k ≡ writeRefusal f (length out) → k ≡ 0 → bytesOf f (drop frameLength out) ≡ writtenOf f out
+unfolding writtenOf
 filled f k out e h = ap (λ (n : ℕ). writtenAs n f out) (sym h ∙ e)
 
 pub untouched : (f : Fields) (k : ℕ) (out : List ℕ) → k ≡ writeRefusal f (length out) → (k ≡ 0 → ⊥) → out ≡ writtenOf f out

@@ -58,6 +58,7 @@ rows-joined s t b a =
 -- the fields of an accepted frame are written, and give its bytes
 pub read-written : (s out : List ℕ) (f : Fields) → Bytes s → readOf s ≡ Frame f → frameLength ≤ length out
     → (writeRefusal f (length out) ≡ 0) × (writtenOf f out ≡ s ++ drop frameLength out)
+unfolding bytesOf
 read-written s out f b e r =
     let q = reading s f e in
     let a = accepted s (q .0) in
@@ -92,6 +93,7 @@ values-held f n t w = omega arith
 -- the first 64 bytes of what is written are the rows of the fields
 written-first : (f : Fields) (out : List ℕ) → Held widths (valuesOf f) → writeRefusal f (length out) ≡ 0
     → take frameLength (writtenOf f out) ≡ joined widths (valuesOf f) []
+unfolding bytesOf
 written-first f out h e =
     ap (take frameLength) (sym (filled f 0 out (sym e) refl) ∙ joined-append widths (valuesOf f) (drop frameLength out))
     ∙ take-at (joined widths (valuesOf f) []) (drop frameLength out) frameLength (length-joined widths (valuesOf f) [] h)

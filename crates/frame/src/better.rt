@@ -14,7 +14,7 @@ const PRECEDENCE_START: usize = 16;
 const PRECEDENCE_END: usize = 29;
 
 // How a frame stands: what meets 4, 5, 6 or 7 loses.
-pub fn standing(frame: &[u8]) -> Standing
+fn standing(frame: &[u8]) -> Standing
     ensures { λ r. ⌜ r ≡ standingOf (now (frame .entry)) ⌝ }
 {
     match read::read(frame) {
@@ -30,7 +30,7 @@ pub fn standing(frame: &[u8]) -> Standing
 }
 
 // The better of two standings, the first on a tie.
-pub fn winner(first: Standing, second: Standing) -> Winner
+fn winner(first: Standing, second: Standing) -> Winner
     ensures { λ r. ⌜ r ≡ winnerOf first second ⌝ }
 {
     match first {

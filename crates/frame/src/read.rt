@@ -22,7 +22,7 @@ pub const TIME_SYNC: u64 = 1;
 pub const FIRST_VERSION: u64 = 1;
 
 // Why the constants of a frame are refused, or 0.
-pub fn constants_refusal(values: [u64; 24]) -> u8
+fn constants_refusal(values: [u64; 24]) -> u8
     ensures { λ r. ⌜ r ≡ constantsRefusal values ⌝ }
 {
     if values[layout::DA] != STATION_ADDRESS {
@@ -44,7 +44,7 @@ pub fn constants_refusal(values: [u64; 24]) -> u8
 }
 
 // The sender's address.
-pub fn mac(values: [u64; 24]) -> Mac
+fn mac(values: [u64; 24]) -> Mac
     requires { ⌜ Held widths values ⌝ }
     ensures { λ r. ⌜ r ≡ macOf values ⌝ }
 {
@@ -59,7 +59,7 @@ pub fn mac(values: [u64; 24]) -> Mac
 }
 
 // The precedence of the clock that the frame is from.
-pub fn precedence(values: [u64; 24]) -> Precedence
+fn precedence(values: [u64; 24]) -> Precedence
     requires { ⌜ Held widths values ⌝ }
     ensures { λ r. ⌜ r ≡ precedenceIn values ⌝ }
 {
@@ -73,7 +73,7 @@ pub fn precedence(values: [u64; 24]) -> Precedence
 }
 
 // All fields.
-pub fn fields(values: [u64; 24]) -> Fields
+fn fields(values: [u64; 24]) -> Fields
     requires { ⌜ Held widths values ⌝ }
     ensures { λ r. ⌜ r ≡ fieldsOf values ⌝ }
 {

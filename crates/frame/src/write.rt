@@ -1,8 +1,9 @@
 // Writing: fields to a frame's bytes, or a refusal that leaves the output as it was.
 ghost use mathlib.Core.Path.{_≡_};
-ghost use lib.ListN.{length};
-ghost use Rattle.frame.specs.Frame.{valuesOf};
-ghost use Rattle.frame.specs.Write.{writeRefusal, writtenOf};
+ghost use Prim.Native.Nat.{_≤_};
+ghost use lib.ListN.{length, drop};
+ghost use Rattle.frame.specs.Frame.{frameLength, valuesOf};
+ghost use Rattle.frame.specs.Write.{writeRefusal, bytesOf, writtenOf};
 use crate::Fields;
 use crate::layout;
 use crate::read;
@@ -10,7 +11,7 @@ use times::grand;
 use times::local;
 
 // The numbers that the fields put into a frame.
-pub fn values(f: Fields) -> [u64; 24]
+fn values(f: Fields) -> [u64; 24]
     ensures { λ r. ⌜ r ≡ valuesOf f ⌝ }
 {
     [
@@ -42,7 +43,7 @@ pub fn values(f: Fields) -> [u64; 24]
 }
 
 // Why fields are not written into an output of this length, or 0.
-pub fn write_refusal(f: Fields, room: usize) -> u8
+fn write_refusal(f: Fields, room: usize) -> u8
     ensures { λ r. ⌜ r ≡ writeRefusal f room ⌝ }
 {
     if f.grand.0 >= grand::SECOND {
@@ -66,6 +67,14 @@ pub fn write_refusal(f: Fields, room: usize) -> u8
     refusals::DONE
 }
 
+// Fills the first 64 bytes of an output that has room for them with the frame.
+pub fn put(f: Fields, out: &mut [u8])
+    requires { ⌜ frameLength ≤ length (now out) ⌝ }
+    ensures { λ _. ⌜ now (out .exit) ≡ bytesOf f (drop frameLength (now (out .entry))) ⌝ }
+{
+    layout::fill(values(f), out);
+}
+
 // Fills the first 64 bytes of out with the frame and answers 0, or answers 2 or 4 and out stays.
 pub fn write(f: Fields, out: &mut [u8]) -> u8
     ensures { λ r. ⌜ r ≡ writeRefusal f (length (now (out .entry))) ⌝ }
@@ -73,7 +82,7 @@ pub fn write(f: Fields, out: &mut [u8]) -> u8
 {
     let no = write_refusal(f, out.len());
     if no == refusals::DONE {
-        layout::fill(values(f), out);
+        put(f, out);
     }
     no
 }

@@ -9,12 +9,22 @@ use lib.Seq.{drop-cons, length-take-le, take-length, drop-length, sets-eq, take-
 use Rattle.hexline.specs.Print.{capitalOf, textOf, withByte, threeOf}
 
 -- a byte's digits are a run of two stores
-with-byte : (xs : List ℕ) (at b : ℕ) → at + 1 < length xs
+pub with-byte : (xs : List ℕ) (at b : ℕ) → at + 1 < length xs
     → withByte xs at b ≡ take at xs ++ (capitalOf (b / 16) ∷ capitalOf (b % 16) ∷ drop (at + 2) xs)
 unfolding withByte
 with-byte xs at b h =
     let two = capitalOf (b / 16) ∷ capitalOf (b % 16) ∷ [] in
     rw add-one (sets-eq two xs at (omega arith) ∙ append-assoc (take at xs) two (drop (at + 2) xs))
+
+pub text-append : (s t : List ℕ) → textOf (s ++ t) ≡ textOf s ++ textOf t
+unfolding textOf
+text-append [] t = refl
+text-append (b ∷ s) t = ap (λ (l : List ℕ). capitalOf (b / 16) ∷ capitalOf (b % 16) ∷ l) (text-append s t)
+
+pub length-text : (s : List ℕ) → length (textOf s) ≡ length s * 2
+unfolding textOf
+length-text [] = refl
+length-text (b ∷ s) = ap (λ (n : ℕ). suc (suc n)) (length-text s) ∙ omega arith
 
 text-next : (s : List ℕ) (i : ℕ) → i < length s → textOf (drop i s) ≡ capitalOf (getD s i 0 / 16) ∷ capitalOf (getD s i 0 % 16) ∷ textOf (drop (suc i) s)
 unfolding textOf

@@ -9,9 +9,10 @@ use lib.Dec.{ltb, eqb}
 use lib.ListN.{length}
 use Rattle.numbers.specs.Table.{Held}
 use Rattle.times.specs.Times.{circle, sinceOf, InRange, nextCount}
-use Rattle.choice.specs.Hop.{lastHop}
+use Rattle.choice.specs.Hop.{lastHop, hopOf}
 use Rattle.times.specs.declared.LocalTime.{LocalTime}
 use Rattle.times.specs.declared.GrandTime.{GrandTime}
+use Rattle.times.specs.declared.ErrorTime.{ErrorTime}
 use Rattle.samples.specs.Keep.{LawfulSamples, keptOf}
 use Rattle.samples.specs.Rate.{neighbourRateOf}
 use Rattle.samples.specs.declared.Samples.{Samples}
@@ -38,7 +39,7 @@ use Rattle.frame.specs.declared.Mac.{Mac}
 use Rattle.port.specs.Record.{silenced, agedBy, agedPort, emptyPort, usedPort}
 use Rattle.port.specs.Lawful.{LawfulPreceding, LawfulPair, LawfulPort, LawfulClock, FieldsInRange}
 use Rattle.port.specs.Own.{storedAs, ownSample, ownReadingBy, ownReadingOf}
-use Rattle.port.specs.Receive.{sampleOf, sameClock, notedPort, refusedBy, delayedBy, followedBy, countedBy, receivedOf}
+use Rattle.port.specs.Receive.{sampleOf, sameClock, notedPort, takenPort, refusedBy, delayedBy, followedBy, countedBy, receivedOf}
 use Rattle.port.specs.Send.{echoTx, echoRx, frameOf, sendingBy, sendingOf, sendingNo}
 use Rattle.port.specs.declared.Sending.{Sending}
 use Rattle.port.specs.declared.Sending.the-variants.{Refused, Frame}
@@ -46,8 +47,8 @@ use Rattle.port.specs.declared.Preceding.{Preceding}
 use Rattle.port.specs.declared.Preceding.the-variants.{Never, Was}
 use Rattle.port.specs.declared.Port.{Port}
 use Rattle.port.specs.declared.OwnClock.{OwnClock}
-use Rattle.port.specs.declared.Received.{Received}
-use Rattle.port.specs.declared.OwnReading.{OwnReading}
+use Rattle.port.specs.declared.PortDone.{PortDone}
+use Rattle.port.specs.declared.ClockDone.{ClockDone}
 use Rattle.numbers.proofs.Places.{Bytes}
 use Rattle.numbers.proofs.Table.{held-at, held-parted}
 use Rattle.numbers.proofs.Branches.{if-true, if-false, if-when}
@@ -119,67 +120,58 @@ module _ (count : ℕ) (grand : GrandTime) (at : LocalTime) (clock : OwnClock) w
       → storedAs 8 (clock .samples) count at ≡ ownReadingOf count grand at clock
   own-reading-other e k = if-false _ (storedAs 0 (keptOf (clock .samples) true (ownSample grand _)) count at) (storedAs 8 (clock .samples) count at) (ne-eqb _ _ k) ∙ own-by e
 
+-- ---- what a frame comes to
+
+-- what holds of a refusal with 7 to 9, and of a frame that is taken, holds of the frame
+module _ (setting : DelaySetting) (chosen : ℕ) (f : Fields) (at : LocalTime) (port : Port) where
+  pub received-is : (P : PortDone → Type 0) → ((k : ℕ) → 7 ≤ k → k ≤ 9 → P (refusedBy k (f .count) at port))
+      → ((count : ℕ) (p : LocalTime) (delay : ℕ) → port .preceding ≡ Was count p → P (record { answer = 0; port = takenPort f (hopOf (f .hop) chosen) p delay at port }))
+      → P (receivedOf setting chosen f at port)
+  unfolding receivedOf followedBy
+  received-is P refuse take = if-when P (eqb (f .hop) lastHop) (λ _. refuse 7 (omega arith) (omega arith)) (λ _. counted (port .preceding) refl)
+    where
+      delayed : (d : Delay) (count : ℕ) (p : LocalTime) → port .preceding ≡ Was count p → P (delayedBy d chosen f p at port)
+      delayed TooLong count p e = refuse 9 (omega arith) (omega arith)
+      delayed (Is x) count p e = take count p x e
+
+      counted : (preceding : Preceding) → port .preceding ≡ preceding → P (countedBy preceding setting chosen f at port)
+      counted Never e = refuse 8 (omega arith) (omega arith)
+      counted (Was count p) e =
+          if-when P (eqb (f .count) (nextCount count))
+          (λ _. delayed (linkDelayOf setting (neighbourRateOf (port .pair) (f .local) p) (f .local) p (f .tx) (f .rx)) count p e)
+          (λ _. refuse 8 (omega arith) (omega arith))
+
 -- what is answered but 0 is 7, 8 or 9, and then only frameCount and arrival are stored
-pub record Noted (f : Fields) (at : LocalTime) (port : Port) (r : Received) : Type 0 where
+pub record Noted (f : Fields) (at : LocalTime) (port : Port) (r : PortDone) : Type 0 where
   pub least : 7 ≤ r .answer
   pub greatest : r .answer ≤ 9
   pub stored : r .port ≡ notedPort (f .count) at port
 
-abbrev RefusedNoted : Fields → LocalTime → Port → Received → Type 0
-RefusedNoted f at port r = (r .answer ≡ 0 → ⊥) → Noted f at port r
-
-pub received-refused : (setting : DelaySetting) (chosen : ℕ) (f : Fields) (at : LocalTime) (port : Port) → RefusedNoted f at port (receivedOf setting chosen f at port)
-unfolding receivedOf followedBy
+pub received-refused : (setting : DelaySetting) (chosen : ℕ) (f : Fields) (at : LocalTime) (port : Port)
+    → (receivedOf setting chosen f at port .answer ≡ 0 → ⊥) → Noted f at port (receivedOf setting chosen f at port)
 received-refused setting chosen f at port =
-    if-when (RefusedNoted f at port) (eqb (f .hop) lastHop) (λ _ _. noted 7 (omega arith) (omega arith)) (λ _. counted (port .preceding))
-  where
-    noted : (k : ℕ) → 7 ≤ k → k ≤ 9 → Noted f at port (refusedBy k (f .count) at port)
-    noted k l g = record { least = l; greatest = g; stored = refl }
+    received-is setting chosen f at port (λ (r : PortDone). (r .answer ≡ 0 → ⊥) → Noted f at port r)
+    (λ k l g _. record { least = l; greatest = g; stored = refl })
+    (λ _ _ _ _ n. absurd (n refl))
 
-    delayed : (d : Delay) (p : LocalTime) → RefusedNoted f at port (delayedBy d chosen f p at port)
-    delayed TooLong p n = noted 9 (omega arith) (omega arith)
-    delayed (Is x) p n = absurd (n refl)
+-- the next frameCount of a port stays, whatever it hears and however it ages
+pub received-count : (setting : DelaySetting) (chosen : ℕ) (f : Fields) (at : LocalTime) (port : Port) → receivedOf setting chosen f at port .port .count ≡ port .count
+received-count setting chosen f at port = received-is setting chosen f at port (λ (r : PortDone). r .port .count ≡ port .count) (λ _ _ _. refl) (λ _ _ _ _. refl)
 
-    counted : (preceding : Preceding) → RefusedNoted f at port (countedBy preceding setting chosen f at port)
-    counted Never = λ _. noted 8 (omega arith) (omega arith)
-    counted (Was count p) =
-        if-when (RefusedNoted f at port) (eqb (f .count) (nextCount count))
-        (λ _. delayed (linkDelayOf setting (neighbourRateOf (port .pair) (f .local) p) (f .local) p (f .tx) (f .rx)) p)
-        (λ _ _. noted 8 (omega arith) (omega arith))
-
--- the next frameCount of a port stays, whatever it hears
-abbrev SameCount : Port → Received → Type 0
-SameCount port r = r .port .next ≡ port .next
-
-pub received-count : (setting : DelaySetting) (chosen : ℕ) (f : Fields) (at : LocalTime) (port : Port) → receivedOf setting chosen f at port .port .next ≡ port .next
-unfolding receivedOf followedBy
-received-count setting chosen f at port = if-when (SameCount port) (eqb (f .hop) lastHop) (λ _. refl) (λ _. counted (port .preceding))
-  where
-    delayed : (d : Delay) (p : LocalTime) → SameCount port (delayedBy d chosen f p at port)
-    delayed TooLong p = refl
-    delayed (Is x) p = refl
-
-    counted : (preceding : Preceding) → SameCount port (countedBy preceding setting chosen f at port)
-    counted Never = refl
-    counted (Was count p) =
-        if-when (SameCount port) (eqb (f .count) (nextCount count))
-        (λ _. delayed (linkDelayOf setting (neighbourRateOf (port .pair) (f .local) p) (f .local) p (f .tx) (f .rx)) p)
-        (λ _. refl)
-
-pub aged-count : (at : LocalTime) (timeout : ℕ) (port : Port) → agedPort at timeout port .next ≡ port .next
+pub aged-count : (at : LocalTime) (timeout : ℕ) (port : Port) → agedPort at timeout port .count ≡ port .count
 unfolding agedPort
 aged-count at timeout port = go (port .announcement)
   where
-    go : (h : Announcement) → agedBy h at timeout port .next ≡ port .next
+    go : (h : Announcement) → agedBy h at timeout port .count ≡ port .count
     go Silent = refl
-    go (Announced p h when) = if-when (λ (r : Port). r .next ≡ port .next) (ltb (sinceOf at when) timeout) (λ _. refl) (λ _. refl)
+    go (Announced p h when) = if-when (λ (r : Port). r .count ≡ port .count) (ltb (sinceOf at when) timeout) (λ _. refl) (λ _. refl)
 
 -- the same for a reading of the own clock: 8 alone, and the samples stay
-pub record NotedClock (count : ℕ) (at : LocalTime) (clock : OwnClock) (t : OwnReading) : Type 0 where
+pub record NotedClock (count : ℕ) (at : LocalTime) (clock : OwnClock) (t : ClockDone) : Type 0 where
   pub number : t .answer ≡ 8
   pub stored : t .clock ≡ record { preceding = Was count at; samples = clock .samples }
 
-abbrev RefusedClock : ℕ → LocalTime → OwnClock → OwnReading → Type 0
+abbrev RefusedClock : ℕ → LocalTime → OwnClock → ClockDone → Type 0
 RefusedClock count at clock t = (t .answer ≡ 0 → ⊥) → NotedClock count at clock t
 
 pub own-reading-refused : (count : ℕ) (grand : GrandTime) (at : LocalTime) (clock : OwnClock)
@@ -204,31 +196,40 @@ module _ (choice : Candidate) (samples : Samples) (mac : Mac) (back : ℕ) (t : 
   send-by {p} {h} {n} e g =
       ap (λ (x : Sent). sendingBy x mac p h t port) g ∙ ap (λ (x : Candidate). sendingOf x samples mac back t port) (sym e)
 
+  -- what holds of a refusal with 10 to 13, and of a frame for the chosen clock, holds of what is sent
+  pub sending-is : (P : Sending → Type 0) → ((k : ℕ) → 10 ≤ k → k ≤ 13 → P (Refused k))
+      → ((p : Precedence) (h : ℕ) (g : GrandTime) (x : ErrorTime) → sentOf samples t back ≡ At g x → P (Frame (frameOf mac p h t g x port)))
+      → P (sendingOf choice samples mac back t port)
+  unfolding sendingOf
+  sending-is P refuse send = chosen choice
+    where
+      by : (s : Sent) → sentOf samples t back ≡ s → (p : Precedence) (h : ℕ) → P (sendingBy s mac p h t port)
+      by (At g x) q p h = send p h g x q
+      by Few q p h = refuse 11 (omega arith) (omega arith)
+      by Late q p h = refuse 12 (omega arith) (omega arith)
+      by Beyond q p h = refuse 13 (omega arith) (omega arith)
+
+      chosen : (c : Candidate) → P (sendingOf c samples mac back t port)
+      chosen Nothing = refuse 10 (omega arith) (omega arith)
+      chosen (Clock p h n) = by (sentOf samples t back) refl p h
+
 -- a frame to be sent has its times in range
 pub sending-written : (choice : Candidate) (samples : Samples) (mac : Mac) (back : ℕ) (t : LocalTime) (port : Port) (room : ℕ) (f : Fields)
     → t .0 < circle → LawfulPort port → frameLength ≤ room → sendingOf choice samples mac back t port ≡ Frame f → writeRefusal f room ≡ 0
-unfolding sendingOf
-sending-written Nothing samples mac back t port room f ht l r e = let z : _≡_ {A = ℕ} 0 1 = cc in absurd (omega arith)
-sending-written (Clock p h n) samples mac back t port room f ht l r e = by (sentOf samples t back) refl e
+sending-written choice samples mac back t port room f ht l r =
+    sending-is choice samples mac back t port (λ (s : Sending). s ≡ Frame f → writeRefusal f room ≡ 0)
+    (λ k _ _ e. let z : _≡_ {A = ℕ} 0 1 = cc in absurd (omega arith))
+    (λ p h g x q e.
+    let same : frameOf mac p h t g x port ≡ f = cc in
+    let w = departure samples t back g x q .range in
+    let m = echo-small (port .echo) (l .echo) in
+    subst (λ (f : Fields). writeRefusal f room ≡ 0) same
+    (unrefused (frameOf mac p h t g x port) room
+    (record { seconds = w .seconds; fraction = w .fraction; local = ht; tx = m .0; rx = m .1; room = r })))
   where
-    tx-small : (s : Pair) → LawfulPair s → echoTx s .0 < circle
-    tx-small Unset q = omega arith
-    tx-small (Set a b) q = q .0
-
-    rx-small : (s : Pair) → LawfulPair s → echoRx s .0 < circle
-    rx-small Unset q = omega arith
-    rx-small (Set a b) q = q .1
-
-    by : (s : Sent) → sentOf samples t back ≡ s → sendingBy s mac p h t port ≡ Frame f → writeRefusal f room ≡ 0
-    by (At g x) k e =
-        let same : frameOf mac p h t g x port ≡ f = cc in
-        let w = departure samples t back g x k .range in
-        subst (λ (f : Fields). writeRefusal f room ≡ 0) same
-        (unrefused (frameOf mac p h t g x port) room
-        (record { seconds = w .seconds; fraction = w .fraction; local = ht; tx = tx-small (port .echo) (l .echo); rx = rx-small (port .echo) (l .echo); room = r }))
-    by Few k e = let z : _≡_ {A = ℕ} 0 1 = cc in absurd (omega arith)
-    by Late k e = let z : _≡_ {A = ℕ} 0 1 = cc in absurd (omega arith)
-    by Beyond k e = let z : _≡_ {A = ℕ} 0 1 = cc in absurd (omega arith)
+    echo-small : (s : Pair) → LawfulPair s → (echoTx s .0 < circle) × (echoRx s .0 < circle)
+    echo-small Unset q = (omega arith, omega arith)
+    echo-small (Set a b) q = q
 
 -- what is answered but 0 is 10 to 13, and then there is no frame
 pub record NoFrame (s : Sending) : Type 0 where
@@ -238,15 +239,10 @@ pub record NoFrame (s : Sending) : Type 0 where
 
 pub sending-refused : (choice : Candidate) (samples : Samples) (mac : Mac) (back : ℕ) (t : LocalTime) (port : Port)
     → (sendingNo (sendingOf choice samples mac back t port) ≡ 0 → ⊥) → NoFrame (sendingOf choice samples mac back t port)
-unfolding sendingOf
-sending-refused Nothing samples mac back t port n = record { least = omega arith; greatest = omega arith; none = refl }
-sending-refused (Clock p h k) samples mac back t port n = by (sentOf samples t back) n
-  where
-    by : (s : Sent) → (sendingNo (sendingBy s mac p h t port) ≡ 0 → ⊥) → NoFrame (sendingBy s mac p h t port)
-    by (At g x) n = absurd (n refl)
-    by Few n = record { least = omega arith; greatest = omega arith; none = refl }
-    by Late n = record { least = omega arith; greatest = omega arith; none = refl }
-    by Beyond n = record { least = omega arith; greatest = omega arith; none = refl }
+sending-refused choice samples mac back t port =
+    sending-is choice samples mac back t port (λ (s : Sending). (sendingNo s ≡ 0 → ⊥) → NoFrame s)
+    (λ k l g _. record { least = l; greatest = g; none = refl })
+    (λ _ _ _ _ _ n. absurd (n refl))
 
 -- a frame is sent only off two samples, with the grand time and errorTime read off them
 abbrev pub ReadOff : Samples → LocalTime → ℕ → Fields → Type 0
@@ -254,17 +250,11 @@ ReadOff samples t back f = Departure samples t back (f .grand) (f .error)
 
 pub sending-read-off : (choice : Candidate) (samples : Samples) (mac : Mac) (back : ℕ) (t : LocalTime) (port : Port)
     → sendingNo (sendingOf choice samples mac back t port) ≡ 0
-    → (f : Fields) × (sendingOf choice samples mac back t port ≡ Frame f) × (f .count ≡ port .next) × ReadOff samples t back f
-unfolding sendingOf
-sending-read-off Nothing samples mac back t port e = absurd (omega arith)
-sending-read-off (Clock p h n) samples mac back t port e = by (sentOf samples t back) refl e
-  where
-    by : (s : Sent) → sentOf samples t back ≡ s → sendingNo (sendingBy s mac p h t port) ≡ 0
-        → (f : Fields) × (sendingBy (sentOf samples t back) mac p h t port ≡ Frame f) × (f .count ≡ port .next) × ReadOff samples t back f
-    by (At g x) q e = (frameOf mac p h t g x port, ap (λ (s : Sent). sendingBy s mac p h t port) q, refl, departure samples t back g x q)
-    by Few q e = absurd (omega arith)
-    by Late q e = absurd (omega arith)
-    by Beyond q e = absurd (omega arith)
+    → (f : Fields) × (sendingOf choice samples mac back t port ≡ Frame f) × (f .count ≡ port .count) × ReadOff samples t back f
+sending-read-off choice samples mac back t port =
+    sending-is choice samples mac back t port (λ (s : Sending). sendingNo s ≡ 0 → (f : Fields) × (s ≡ Frame f) × (f .count ≡ port .count) × ReadOff samples t back f)
+    (λ k l _ e. absurd (omega arith))
+    (λ p h g x q _. let f = frameOf mac p h t g x port in (f, refl, refl, departure samples t back g x q))
 
 -- the times of a frame that was read are in range
 pub read-in-range : (s : List ℕ) (f : Fields) → Bytes s → readOf s ≡ Frames.Frame f → FieldsInRange f
@@ -294,34 +284,18 @@ aged-lawful at timeout port l = go (port .announcement)
     go Silent = l
     go (Announced p h when) = if-when LawfulPort (ltb (sinceOf at when) timeout) (λ _. l) (λ _. record { preceding = l .preceding; samples = tt; echo = tt })
 
-noted-lawful : (count : ℕ) (at : LocalTime) (port : Port) (k : ℕ) → at .0 < circle → LawfulPort port → LawfulPort (refusedBy k count at port .port)
-noted-lawful count at port k h l = record { preceding = h; samples = l .samples; echo = l .echo }
-
-abbrev After : Received → Type 0
-After r = LawfulPort (r .port)
-
 pub received-lawful : (setting : DelaySetting) (chosen : ℕ) (f : Fields) (at : LocalTime) (port : Port)
     → at .0 < circle → FieldsInRange f → LawfulPort port → LawfulPort (receivedOf setting chosen f at port .port)
-unfolding receivedOf followedBy
 received-lawful setting chosen f at port h r l =
-    if-when After (eqb (f .hop) lastHop) (λ _. noted-lawful (f .count) at port 7 h l) (λ _. counted (port .preceding) (l .preceding))
-  where
-    delayed : (d : Delay) (p : LocalTime) → p .0 < circle → After (delayedBy d chosen f p at port)
-    delayed TooLong p hp = noted-lawful (f .count) at port 9 h l
-    delayed (Is n) p hp = record {
+    received-is setting chosen f at port (λ (d : PortDone). LawfulPort (d .port))
+    (λ _ _ _. record { preceding = h; samples = l .samples; echo = l .echo })
+    (λ count p n e. record {
       preceding = h;
       samples = kept-lawful (port .samples) (sameClock (port .announcement) (f .precedence)) (sampleOf f p n) (l .samples) (r .grand);
-      echo = (r .local, hp);
-    }
+      echo = (r .local, subst LawfulPreceding e (l .preceding));
+    })
 
-    counted : (preceding : Preceding) → LawfulPreceding preceding → After (countedBy preceding setting chosen f at port)
-    counted Never t = noted-lawful (f .count) at port 8 h l
-    counted (Was count p) t =
-        if-when After (eqb (f .count) (nextCount count))
-        (λ _. delayed (linkDelayOf setting (neighbourRateOf (port .pair) (f .local) p) (f .local) p (f .tx) (f .rx)) p t)
-        (λ _. noted-lawful (f .count) at port 8 h l)
-
-abbrev Clocked : OwnReading → Type 0
+abbrev Clocked : ClockDone → Type 0
 Clocked t = LawfulClock (t .clock)
 
 pub own-reading-lawful : (count : ℕ) (grand : GrandTime) (at : LocalTime) (clock : OwnClock)

@@ -22,7 +22,7 @@ use Rattle.frame.specs.declared.Fields.{Fields}
 use Rattle.port.specs.declared.Preceding.{Preceding}
 use Rattle.port.specs.declared.Preceding.the-variants.{Never, Was}
 use Rattle.port.specs.declared.Port.{Port}
-use Rattle.port.specs.declared.Received.{Received}
+use Rattle.port.specs.declared.PortDone.{PortDone}
 
 -- whether the announcement is of the clock with this precedence
 unfoldable pub sameClock : Announcement → Precedence → Bool
@@ -32,9 +32,9 @@ sameClock (Announced held hop when) precedence = eqb (precedenceOf held) (preced
 -- a refused frame: frameCount and arrival are stored as the next p, and nothing else
 abbrev pub notedPort : ℕ → LocalTime → Port → Port
 notedPort count at port =
-    record { preceding = Was count at; announcement = port .announcement; samples = port .samples; pair = port .pair; echo = port .echo; next = port .next }
+    record { preceding = Was count at; announcement = port .announcement; samples = port .samples; pair = port .pair; echo = port .echo; count = port .count }
 
-abbrev pub refusedBy : ℕ → ℕ → LocalTime → Port → Received
+abbrev pub refusedBy : ℕ → ℕ → LocalTime → Port → PortDone
 refusedBy k count at port = record { answer = k; port = notedPort count at port }
 
 -- step 4: the frame's sample
@@ -49,26 +49,26 @@ takenPort f hop p delay at port = record {
   samples = keptOf (port .samples) (sameClock (port .announcement) (f .precedence)) (sampleOf f p delay);
   pair = Set (f .local) p;
   echo = Set (f .local) p;
-  next = port .next;
+  count = port .count;
 }
 
 -- step 3, and 9 for a delay that is too long
-abbrev pub delayedBy : Delay → ℕ → Fields → LocalTime → LocalTime → Port → Received
+abbrev pub delayedBy : Delay → ℕ → Fields → LocalTime → LocalTime → Port → PortDone
 delayedBy TooLong chosen f p at port = refusedBy delayTooLong (f .count) at port
 delayedBy (Is delay) chosen f p at port = record { answer = done; port = takenPort f (hopOf (f .hop) chosen) p delay at port }
 
 -- steps 1 and 2, for a frame whose preceding one arrived at p
-unfoldable pub followedBy : DelaySetting → ℕ → Fields → LocalTime → LocalTime → Port → Received
+unfoldable pub followedBy : DelaySetting → ℕ → Fields → LocalTime → LocalTime → Port → PortDone
 followedBy setting chosen f p at port =
     delayedBy (linkDelayOf setting (neighbourRateOf (port .pair) (f .local) p) (f .local) p (f .tx) (f .rx)) chosen f p at port
 
 -- 8 where the frameCount does not follow on the preceding one, or there is none
-abbrev pub countedBy : Preceding → DelaySetting → ℕ → Fields → LocalTime → Port → Received
+abbrev pub countedBy : Preceding → DelaySetting → ℕ → Fields → LocalTime → Port → PortDone
 countedBy Never setting chosen f at port = refusedBy notNext (f .count) at port
 countedBy (Was count p) setting chosen f at port =
     cond (eqb (f .count) (nextCount count)) (followedBy setting chosen f p at port) (refusedBy notNext (f .count) at port)
 
 -- 7 for the last hop, then 8, then 9; `chosen` is the chosen clock's held hop before the call
-unfoldable pub receivedOf : DelaySetting → ℕ → Fields → LocalTime → Port → Received
+unfoldable pub receivedOf : DelaySetting → ℕ → Fields → LocalTime → Port → PortDone
 receivedOf setting chosen f at port =
     cond (eqb (f .hop) lastHop) (refusedBy lastHopHeard (f .count) at port) (countedBy (port .preceding) setting chosen f at port)

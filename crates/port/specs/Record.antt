@@ -14,16 +14,16 @@ use Rattle.port.specs.declared.OwnClock.{OwnClock}
 
 -- nothing is stored at first
 abbrev pub emptyPort : Port
-emptyPort = record { preceding = Never; announcement = Silent; samples = Empty; pair = Unset; echo = Unset; next = 0 }
+emptyPort = record { preceding = Never; announcement = Silent; samples = Empty; pair = Unset; echo = Unset; count = 0 }
 
 abbrev pub emptyClock : OwnClock
 emptyClock = record { preceding = Never; samples = Empty }
 
 -- without announcement, samples and echo
 abbrev pub silenced : Port → Port
-silenced port = record { preceding = port .preceding; announcement = Silent; samples = Empty; pair = port .pair; echo = Unset; next = port .next }
+silenced port = record { preceding = port .preceding; announcement = Silent; samples = Empty; pair = port .pair; echo = Unset; count = port .count }
 
--- Age on one port: an announcement that was announcement a timeout ago or longer goes, with samples and echo
+-- Age on one port: an announcement heard a timeout ago or longer goes, with samples and echo
 abbrev pub agedBy : Announcement → LocalTime → ℕ → Port → Port
 agedBy Silent at timeout port = port
 agedBy (Announced precedence hop when) at timeout port = cond (ltb (sinceOf at when) timeout) port (silenced port)
@@ -31,6 +31,10 @@ agedBy (Announced precedence hop when) at timeout port = cond (ltb (sinceOf at w
 unfoldable pub agedPort : LocalTime → ℕ → Port → Port
 agedPort at timeout port = agedBy (port .announcement) at timeout port
 
+-- with another next frameCount
+abbrev pub withCount : Port → ℕ → Port
+withCount port count = record { preceding = port .preceding; announcement = port .announcement; samples = port .samples; pair = port .pair; echo = port .echo; count = count }
+
 -- Send on one port: its next frameCount is used up
 abbrev pub usedPort : Port → Port
-usedPort port = record { preceding = port .preceding; announcement = port .announcement; samples = port .samples; pair = port .pair; echo = port .echo; next = nextCount (port .next) }
+usedPort port = withCount port (nextCount (port .count))

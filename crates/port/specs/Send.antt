@@ -1,6 +1,7 @@
 -- Send, on one record: the frame for the chosen clock, or why there is none.
 use Prim.Native.Nat.{ℕ}
 use mathlib.Core.List.{List}
+use lib.ListN.{drop}
 use Rattle.refusals.specs.Refusals.{done, noClock}
 use Rattle.times.specs.declared.LocalTime.{LocalTime}
 use Rattle.times.specs.declared.GrandTime.{GrandTime}
@@ -14,10 +15,13 @@ use Rattle.line.specs.declared.Sent.the-variants.{At, Few, Late, Beyond}
 use Rattle.choice.specs.declared.Precedence.{Precedence}
 use Rattle.choice.specs.declared.Candidate.{Candidate}
 use Rattle.choice.specs.declared.Candidate.the-variants.{Nothing, Clock}
-use Rattle.frame.specs.Write.{writeRefusal, writtenOf}
+use Rattle.frame.specs.Frame.{frameLength}
+use Rattle.frame.specs.Write.{bytesOf}
 use Rattle.frame.specs.declared.Mac.{Mac}
 use Rattle.frame.specs.declared.Fields.{Fields}
+use Rattle.port.specs.Record.{usedPort}
 use Rattle.port.specs.declared.Port.{Port}
+use Rattle.port.specs.declared.PortDone.{PortDone}
 use Rattle.port.specs.declared.Sending.{Sending}
 use Rattle.port.specs.declared.Sending.the-variants.{Refused, Frame}
 
@@ -36,7 +40,7 @@ frameOf mac precedence hop t grand error port = record {
   sa = mac;
   precedence = precedence;
   hop = hop;
-  count = port .next;
+  count = port .count;
   grand = grand;
   local = t;
   tx = echoTx (port .echo);
@@ -61,11 +65,11 @@ abbrev pub sendingNo : Sending → ℕ
 sendingNo (Refused k) = k
 sendingNo (Frame f) = done
 
--- the answer and the output's bytes, by Write where there is a frame
-abbrev pub deliveredNo : Sending → ℕ → ℕ
-deliveredNo (Refused k) room = k
-deliveredNo (Frame f) room = writeRefusal f room
+-- the answer, and the record whose next frameCount is used up, also by a refusal
+abbrev pub sentBy : Sending → Port → PortDone
+sentBy sending port = record { answer = sendingNo sending; port = usedPort port }
 
-abbrev pub deliveredBytes : Sending → List ℕ → List ℕ
-deliveredBytes (Refused k) out = out
-deliveredBytes (Frame f) out = writtenOf f out
+-- the frame over the first 64 bytes of the output; a refusal leaves it as it was
+abbrev pub filledBy : Sending → List ℕ → List ℕ
+filledBy (Refused k) out = out
+filledBy (Frame f) out = bytesOf f (drop frameLength out)

@@ -17,14 +17,14 @@ pub enum Preceding {
     Was(u8, LocalTime),
 }
 
-// All that is stored of a port.
+// All that is stored of a port; the count is its next frameCount.
 pub struct Port {
     pub preceding: Preceding,
     pub announcement: Announcement,
     pub samples: Samples,
     pub pair: Pair,
     pub echo: Pair,
-    pub next: u8,
+    pub count: u8,
 }
 
 // All that is stored of the station's own clock.
@@ -38,14 +38,14 @@ pub struct Setting {
     pub delay: DelaySetting,
 }
 
-// What a frame is answered with, and the record after it.
-pub struct Received {
+// What a frame or a send is answered with, 0 for done, and the port's record after it.
+pub struct PortDone {
     pub answer: u8,
     pub port: Port,
 }
 
-// What a reading of the own clock is answered with, and its record after it.
-pub struct OwnReading {
+// What a reading of the own clock is answered with, 0 for done, and its record after it.
+pub struct ClockDone {
     pub answer: u8,
     pub clock: OwnClock,
 }

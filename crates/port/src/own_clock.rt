@@ -3,8 +3,8 @@ ghost use mathlib.Core.Path.{_≡_};
 ghost use Rattle.times.specs.Times.{InRange};
 ghost use Rattle.samples.specs.Keep.{LawfulSamples};
 ghost use Rattle.port.specs.Own.{storedAs, ownReadingOf};
+use crate::ClockDone;
 use crate::OwnClock;
-use crate::OwnReading;
 use crate::Preceding;
 use samples::Sample;
 use samples::Samples;
@@ -15,10 +15,10 @@ use times::LocalTime;
 use times::local;
 
 // The record with these samples, and with the reading's frameCount and time.
-pub fn stored(answer: u8, samples: Samples, count: u8, at: LocalTime) -> OwnReading
+fn stored(answer: u8, samples: Samples, count: u8, at: LocalTime) -> ClockDone
     ensures { λ r. ⌜ r ≡ storedAs answer samples count at ⌝ }
 {
-    OwnReading {
+    ClockDone {
         answer: answer,
         clock: OwnClock {
             preceding: Preceding::Was(count, at),
@@ -28,7 +28,7 @@ pub fn stored(answer: u8, samples: Samples, count: u8, at: LocalTime) -> OwnRead
 }
 
 // A reading: the grand time belongs to the time of the preceding one.
-pub fn own_clock(clock: OwnClock, count: u8, grand: GrandTime, at: LocalTime) -> OwnReading
+pub fn own_clock(clock: OwnClock, count: u8, grand: GrandTime, at: LocalTime) -> ClockDone
     requires { ⌜ LawfulSamples (clock .samples) ⌝ }
     requires { ⌜ InRange grand ⌝ }
     ensures { λ r. ⌜ r ≡ ownReadingOf count grand at clock ⌝ }

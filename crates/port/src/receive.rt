@@ -5,8 +5,8 @@ ghost use Rattle.choice.specs.Hop.{lastHop};
 ghost use Rattle.port.specs.Lawful.{LawfulPort, FieldsInRange};
 ghost use Rattle.port.specs.Receive.{sameClock, refusedBy, takenPort, followedBy, receivedOf};
 use crate::Port;
+use crate::PortDone;
 use crate::Preceding;
-use crate::Received;
 use choice::Announcement;
 use choice::Precedence;
 use choice::hop;
@@ -21,7 +21,7 @@ use times::LocalTime;
 use times::local;
 
 // Whether an announcement is of the clock with this precedence.
-pub fn same_clock(announcement: Announcement, precedence: Precedence) -> bool
+fn same_clock(announcement: Announcement, precedence: Precedence) -> bool
     ensures { λ r. ⌜ r ≡ sameClock announcement precedence ⌝ }
 {
     match announcement {
@@ -31,14 +31,14 @@ pub fn same_clock(announcement: Announcement, precedence: Precedence) -> bool
 }
 
 // A refused frame: its frameCount and arrival are stored, as the next p and not as heard-at.
-pub fn refused(port: Port, refusal: u8, count: u8, at: LocalTime) -> Received
+fn refused(port: Port, refusal: u8, count: u8, at: LocalTime) -> PortDone
     ensures { λ r. ⌜ r ≡ refusedBy refusal count at port ⌝ }
 {
     let announcement = port.announcement;
     let samples = port.samples;
     let pair = port.pair;
     let echo = port.echo;
-    Received {
+    PortDone {
         answer: refusal,
         port: Port {
             preceding: Preceding::Was(count, at),
@@ -46,13 +46,13 @@ pub fn refused(port: Port, refusal: u8, count: u8, at: LocalTime) -> Received
             samples: samples,
             pair: pair,
             echo: echo,
-            next: port.next,
+            count: port.count,
         },
     }
 }
 
 // A frame that is taken, with its delay and its held hop: steps 4 and 5.
-pub fn taken(port: Port, f: Fields, hop: u8, p: LocalTime, delay: u64, at: LocalTime) -> Port
+fn taken(port: Port, f: Fields, hop: u8, p: LocalTime, delay: u64, at: LocalTime) -> Port
     requires { ⌜ LawfulPort port ⌝ }
     requires { ⌜ FieldsInRange f ⌝ }
     ensures { λ r. ⌜ r ≡ takenPort f hop p delay at port ⌝ }
@@ -75,19 +75,19 @@ pub fn taken(port: Port, f: Fields, hop: u8, p: LocalTime, delay: u64, at: Local
         samples: kept,
         pair: Pair::Set(there, p),
         echo: Pair::Set(there, p),
-        next: port.next,
+        count: port.count,
     }
 }
 
 // A frame that follows on the one that arrived at p: its delay, and then the frame itself.
-pub fn followed(
+fn followed(
     port: Port,
     setting: DelaySetting,
     chosen: u8,
     f: Fields,
     p: LocalTime,
     at: LocalTime,
-) -> Received
+) -> PortDone
     requires { ⌜ LawfulPort port ⌝ }
     requires { ⌜ FieldsInRange f ⌝ }
     requires { ⌜ f .hop < lastHop ⌝ }
@@ -99,7 +99,7 @@ pub fn followed(
     let rx = f.rx;
     match delay::link_delay(setting, pair, there, p, tx, rx) {
         Delay::TooLong => refused(port, refusals::DELAY_TOO_LONG, f.count, at),
-        Delay::Is(delay) => Received {
+        Delay::Is(delay) => PortDone {
             answer: refusals::DONE,
             port: taken(port, f, hop::held_hop(f.hop, chosen), p, delay, at),
         },
@@ -107,7 +107,7 @@ pub fn followed(
 }
 
 // A frame that was read, on a port with this setting, where the chosen clock's held hop is `chosen`.
-pub fn receive(port: Port, setting: DelaySetting, chosen: u8, f: Fields, at: LocalTime) -> Received
+pub fn receive(port: Port, setting: DelaySetting, chosen: u8, f: Fields, at: LocalTime) -> PortDone
     requires { ⌜ LawfulPort port ⌝ }
     requires { ⌜ FieldsInRange f ⌝ }
     ensures { λ r. ⌜ r ≡ receivedOf setting chosen f at port ⌝ }

@@ -1,6 +1,6 @@
-// Records that are empty, that lose what is too old, and that use up a frameCount.
+// Records that are empty, and that lose what is too old.
 ghost use mathlib.Core.Path.{_≡_};
-ghost use Rattle.port.specs.Record.{emptyPort, emptyClock, agedPort, usedPort};
+ghost use Rattle.port.specs.Record.{emptyPort, emptyClock, agedPort};
 use crate::OwnClock;
 use crate::Port;
 use crate::Preceding;
@@ -20,7 +20,7 @@ pub fn empty() -> Port
         samples: Samples::Empty,
         pair: Pair::Unset,
         echo: Pair::Unset,
-        next: 0,
+        count: 0,
     }
 }
 
@@ -53,17 +53,8 @@ pub fn aged(port: Port, at: LocalTime, timeout: u64) -> Port
                 samples: Samples::Empty,
                 pair: pair,
                 echo: Pair::Unset,
-                next: port.next,
+                count: port.count,
             }
         }
     }
-}
-
-// The record once its next frameCount is used up.
-pub fn used(port: Port) -> Port
-    ensures { λ r. ⌜ r ≡ usedPort port ⌝ }
-{
-    let mut after = port;
-    after.next = local::next_count(port.next);
-    after
 }

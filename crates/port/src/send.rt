@@ -1,11 +1,13 @@
 // The frame that a port sends for the chosen clock.
 ghost use mathlib.Core.Path.{_≡_};
-ghost use Prim.Native.Nat.{_<_};
+ghost use Prim.Native.Nat.{_<_, _≤_};
 ghost use lib.ListN.{length};
 ghost use Rattle.samples.specs.Keep.{LawfulSamples};
 ghost use Rattle.line.specs.Sent.{longestElapsed};
-ghost use Rattle.port.specs.Send.{echoTx, echoRx, frameOf, sendingOf, deliveredNo, deliveredBytes};
+ghost use Rattle.frame.specs.Frame.{frameLength};
+ghost use Rattle.port.specs.Send.{echoTx, echoRx, frameOf, sendingOf, sentBy, filledBy};
 use crate::Port;
+use crate::PortDone;
 use crate::Sending;
 use choice::Candidate;
 use choice::Precedence;
@@ -19,9 +21,10 @@ use samples::Samples;
 use times::ErrorTime;
 use times::GrandTime;
 use times::LocalTime;
+use times::local;
 
 // The neighbour's time in an echo, 0 where there is none.
-pub fn echo_tx(echo: Pair) -> LocalTime
+fn echo_tx(echo: Pair) -> LocalTime
     ensures { λ r. ⌜ r ≡ echoTx echo ⌝ }
 {
     match echo {
@@ -31,7 +34,7 @@ pub fn echo_tx(echo: Pair) -> LocalTime
 }
 
 // The arrival here in an echo, 0 where there is none.
-pub fn echo_rx(echo: Pair) -> LocalTime
+fn echo_rx(echo: Pair) -> LocalTime
     ensures { λ r. ⌜ r ≡ echoRx echo ⌝ }
 {
     match echo {
@@ -41,7 +44,7 @@ pub fn echo_rx(echo: Pair) -> LocalTime
 }
 
 // The fields of a frame for a clock with this precedence and held hop.
-pub fn fields(
+fn fields(
     mac: Mac,
     precedence: Precedence,
     hop: u8,
@@ -57,7 +60,7 @@ pub fn fields(
         sa: mac,
         precedence: precedence,
         hop: hop,
-        count: port.next,
+        count: port.count,
         grand: grand,
         local: t,
         tx: echo_tx(echo),
@@ -67,7 +70,7 @@ pub fn fields(
 }
 
 // The frame that the port sends at t, read off the chosen clock's samples, or 10 to 13.
-pub fn composed(
+fn composed(
     choice: Candidate,
     samples: Samples,
     mac: Mac,
@@ -92,13 +95,35 @@ pub fn composed(
     }
 }
 
-// Fills the output with the frame and answers 0, or answers the refusal and the output stays.
-pub fn delivered(sending: Sending, out: &mut [u8]) -> u8
-    ensures { λ r. ⌜ r ≡ deliveredNo sending (length (now (out .entry))) ⌝ }
-    ensures { λ _. ⌜ now (out .exit) ≡ deliveredBytes sending (now (out .entry)) ⌝ }
+// Sends at t for the chosen clock: the frame fills the output, or the answer is 10 to 13; either way the next frameCount is used up.
+pub fn send(
+    port: Port,
+    choice: Candidate,
+    samples: Samples,
+    mac: Mac,
+    back: u64,
+    t: LocalTime,
+    out: &mut [u8],
+) -> PortDone
+    requires { ⌜ LawfulSamples samples ⌝ }
+    requires { ⌜ back < longestElapsed ⌝ }
+    requires { ⌜ frameLength ≤ length (now out) ⌝ }
+    ensures { λ r. ⌜ r ≡ sentBy (sendingOf choice samples mac back t port) port ⌝ }
+    ensures { λ _. ⌜ now (out .exit) ≡ filledBy (sendingOf choice samples mac back t port) (now (out .entry)) ⌝ }
 {
-    match sending {
-        Sending::Refused(refusal) => refusal,
-        Sending::Frame(f) => write::write(f, out),
+    let mut after = port;
+    after.count = local::next_count(port.count);
+    match composed(choice, samples, mac, back, t, port) {
+        Sending::Refused(refusal) => PortDone {
+            answer: refusal,
+            port: after,
+        },
+        Sending::Frame(f) => {
+            write::put(f, out);
+            PortDone {
+                answer: refusals::DONE,
+                port: after,
+            }
+        }
     }
 }

@@ -1,4 +1,4 @@
-// The refusals that are found before any record is looked at, over numbers alone.
+// The refusals that are found before any record is looked at.
 ghost use mathlib.Core.Path.{_≡_};
 ghost use Prim.Native.Nat.{_≤_};
 ghost use lib.Dec.{leb};
@@ -6,13 +6,16 @@ ghost use lib.ListN.{take};
 ghost use Rattle.times.specs.Times.{circle};
 ghost use Rattle.table.specs.Arguments.{hasLink, portRefusal, sendRefusal, ownClockRefusal, maskBeyond};
 ghost use Rattle.table.specs.Fits.{delayFits, delaysFit, setupFits};
+use crate::Setup;
 use delay::DelaySetting;
 use frame::layout;
 use port::Setting;
 use times::grand;
 use times::local;
 
-// What Setup takes: at most so many ports, a timeout from the least to the greatest, a backTime below the end.
+// What Setup takes: from the fewest ports to the most, a timeout from the least to the greatest, a backTime below the end.
+const FEWEST_PORTS: u8 = 1;
+
 const MOST_PORTS: u8 = 8;
 
 const LEAST_TIMEOUT: u64 = 0x10_0000_0000;
@@ -29,7 +32,7 @@ pub fn off_circle(at: u64) -> bool
 }
 
 // Whether a port has a link.
-pub fn has_link(links: u8, port: u8) -> bool
+fn has_link(links: u8, port: u8) -> bool
     requires { ⌜ (1 ≤ port) × (port ≤ 8) ⌝ }
     ensures { λ r. ⌜ r ≡ hasLink links port ⌝ }
 {
@@ -99,7 +102,7 @@ pub fn beyond(n: u8, mask: u8) -> bool
 }
 
 // Whether a port's delay setting is one that Setup takes.
-pub fn delay_fits(setting: DelaySetting) -> bool
+fn delay_fits(setting: DelaySetting) -> bool
     ensures { λ r. ⌜ r ≡ delayFits setting ⌝ }
 {
     match setting {
@@ -109,7 +112,7 @@ pub fn delay_fits(setting: DelaySetting) -> bool
 }
 
 // Whether the settings of the first n ports are such.
-pub fn delays_fit(n: u8, settings: [Setting; 8]) -> bool
+fn delays_fit(n: u8, settings: [Setting; 8]) -> bool
     requires { ⌜ n ≤ 8 ⌝ }
     ensures { λ r. ⌜ r ≡ delaysFit (take n settings) ⌝ }
 {
@@ -127,24 +130,25 @@ pub fn delays_fit(n: u8, settings: [Setting; 8]) -> bool
     true
 }
 
-// Whether Setup takes these.
-pub fn setup_fits(n: u8, timeout: u64, back: u64, settings: [Setting; 8]) -> bool
-    ensures { λ r. ⌜ r ≡ setupFits n timeout back settings ⌝ }
+// Whether Setup takes this.
+pub fn setup_fits(s: Setup) -> bool
+    ensures { λ r. ⌜ r ≡ setupFits s ⌝ }
 {
-    if n == 0 {
+    if s.n < FEWEST_PORTS {
         return false;
     }
-    if MOST_PORTS < n {
+    if MOST_PORTS < s.n {
         return false;
     }
-    if timeout < LEAST_TIMEOUT {
+    if s.timeout < LEAST_TIMEOUT {
         return false;
     }
-    if GREATEST_TIMEOUT < timeout {
+    if GREATEST_TIMEOUT < s.timeout {
         return false;
     }
-    if BACK_END <= back {
+    if BACK_END <= s.back {
         return false;
     }
-    delays_fit(n, settings)
+    let settings = s.settings;
+    delays_fit(s.n, settings)
 }

@@ -1,14 +1,15 @@
-// The eight records, one after the other, with no other part of the state.
+// The plainest setup, and the eight records one after the other, with no other part of the state.
 ghost use mathlib.Core.Path.{_≡_};
 ghost use Prim.Native.Nat.{_<_, _≤_};
-ghost use lib.ListN.{replicate};
 ghost use Rattle.port.specs.Record.{agedPort};
 ghost use Rattle.table.specs.Table.{each, samplesAt, samplesOfChoice, numberOf, relinkedPort, choiceOf};
-ghost use Rattle.table.specs.Fits.{measuredSetting};
+ghost use Rattle.table.specs.Fits.{plainSetup};
+use crate::Setup;
 use choice::Candidate;
 use choice::Precedence;
 use choice::candidates;
 use delay::DelaySetting;
+use frame::Mac;
 use port::OwnClock;
 use port::Port;
 use port::Setting;
@@ -19,14 +20,28 @@ use times::LocalTime;
 // How many records there are.
 const PORTS: usize = 8;
 
-// Settings of ports that all measure their delay.
-pub fn measured_settings() -> [Setting; 8]
-    ensures { λ r. ⌜ r ≡ replicate 8 measuredSetting ⌝ }
+// The setup of a station that is not capable and whose n ports all measure their delay, with zeros for address and precedence.
+pub fn plain_setup(n: u8, timeout: u64, back: u64) -> Setup
+    ensures { λ r. ⌜ r ≡ plainSetup n timeout back ⌝ }
 {
     let setting = Setting {
         delay: DelaySetting::Measured,
     };
-    [setting; 8]
+    Setup {
+        n: n,
+        mac: Mac(0, 0, 0, 0, 0, 0),
+        own: Precedence {
+            priority1: 0,
+            source: 0,
+            variance: 0,
+            priority2: 0,
+            clock: 0,
+        },
+        capable: false,
+        timeout: timeout,
+        back: back,
+        settings: [setting; 8],
+    }
 }
 
 // The records once announcements that are too old are gone.
@@ -44,7 +59,7 @@ pub fn aged(ports: [Port; 8], at: LocalTime, timeout: u64) -> [Port; 8]
 }
 
 // A port's record once the links are `mask`, where they were `links`.
-pub fn relinked_port(port: Port, links: u8, mask: u8, i: usize) -> Port
+fn relinked_port(port: Port, links: u8, mask: u8, i: usize) -> Port
     requires { ⌜ i < 8 ⌝ }
     ensures { λ r. ⌜ r ≡ relinkedPort links mask i port ⌝ }
 {
@@ -70,7 +85,7 @@ pub fn relinked(ports: [Port; 8], links: u8, mask: u8) -> [Port; 8]
     after
 }
 
-// The choice between the own clock, on a station that is capable, and the clocks announcement at the ports.
+// The choice between the own clock, on a station that is capable, and the clocks announced at the ports.
 pub fn choice(capable: bool, own: Precedence, ports: [Port; 8]) -> Candidate
     ensures { λ r. ⌜ r ≡ choiceOf capable own ports ⌝ }
 {

@@ -5,6 +5,9 @@ use crate::frame::FRAME_LEN;
 
 /// The places of a frame's bytes that must have one value, the version's place included.
 const FIXED_PLACES: [usize; 11] = [0, 1, 2, 3, 4, 5, 12, 13, 14, 15, 31];
+/// The version's place, and versions that are refused.
+const VERSION_PLACE: usize = 15;
+const WRONG_VERSIONS: [u8; 3] = [0, 2, 255];
 /// How long the longest usual line of nonsense is.
 const NONSENSE_MOST: u64 = 600;
 /// How long a rare line of nonsense is.
@@ -177,7 +180,7 @@ pub fn nonsense(random: &mut Random, line: &mut Vec<u8>) {
 /// Spoils a frame, though not always so that it is refused.
 pub fn frame(random: &mut Random, bytes: &[u8; FRAME_LEN]) -> Vec<u8> {
     let mut spoiled = bytes.to_vec();
-    match random.below(8) {
+    match random.below(9) {
         0 => spoiled.truncate(random.below(FRAME_LEN as u64) as usize),
         1 => spoiled.truncate(FRAME_LEN - 1),
         2 => spoiled.push(random.bits() as u8),
@@ -186,7 +189,12 @@ pub fn frame(random: &mut Random, bytes: &[u8; FRAME_LEN]) -> Vec<u8> {
             let place = random.pick(&FIXED_PLACES);
             spoiled[place] = changed(random, spoiled[place]);
         }
-        6 => spoiled[15] = random.pick(&[0, 2, 255]),
+        6 => spoiled[VERSION_PLACE] = random.pick(&WRONG_VERSIONS),
+        7 => {
+            let place = random.pick(&FIXED_PLACES);
+            spoiled[place] = changed(random, spoiled[place]);
+            spoiled[VERSION_PLACE] = random.pick(&WRONG_VERSIONS);
+        }
         _ => {
             let place = random.below(FRAME_LEN as u64) as usize;
             spoiled[place] = changed(random, spoiled[place]);

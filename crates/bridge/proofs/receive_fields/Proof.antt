@@ -5,8 +5,9 @@ use Prim.Native.Nat.{ℕ}
 use Rattle.choice.specs.Choose.{chosenHop}
 use Rattle.port.specs.Receive.{receivedOf}
 use Rattle.table.specs.Table.{portAt}
+use Rattle.bridge.specs.State.{storesPort}
 use Rattle.bridge.specs.Chosen.{chosenOf}
-use Rattle.bridge.specs.Receive.{receivedAs, delayAt, receiveFieldsOf}
+use Rattle.bridge.specs.Receive.{delayAt, receiveFieldsOf}
 use Rattle.bridge.proofs.receive_fields.Statement.{statement}
 use Rattle.bridge.proofs.receive_fields.Tie as tie
 
@@ -30,7 +31,7 @@ element-copy-out-setting c = search needs
 
 receive-requires : tie.Need-receive-requires
 receive-requires c κs =
-    let s = c .before .before .before .before .before .before in
+    let s = c .before .before .before .before .before .before .before in
     (s .pre .0 .ports-lawful _, s .pre .1 .1)
 
 mul-after : tie.Need-mul-after
@@ -43,10 +44,10 @@ returns : tie.Need-returns
 unfolding receiveFieldsOf chosenOf
 returns c =
     let r = c .before in
-    let h = r .before .before .before in
+    let h = r .before .before .before .before in
     let k = h .before in
     let a = k .before .before .before .args in
-    ap (receivedAs (a .t1) (a .i))
+    ap (storesPort (a .t1) (a .i))
     (r .receive .ensures
     ∙ ap (λ (hop : ℕ). receivedOf (delayAt (a .t1) (a .i)) hop (a .f) (a .at) (portAt (a .t1 .ports) (a .i))) (h .chosen-hop .ensures ∙ ap chosenHop (k .choice .ensures)))
 

@@ -1,11 +1,9 @@
 -- By what Setup takes.
 use borrow.Author.Needs.{needs}
-use native.Mathlib.Omega.{arith}
 use mathlib.Core.Path.{_≡_, sym, ap, _∙_}
-use mathlib.Core.Bool.{false}
-use lib.ListN.{length}
+use lib.ListN.{length, length-map}
 use Rattle.bridge.specs.State.{answers}
-use Rattle.bridge.specs.Setup.{freshOf, noMac, noPrecedence}
+use Rattle.bridge.specs.Setup.{freshOf}
 use Rattle.bridge.proofs.StateLaws.{setup-done, setup-refused}
 use Rattle.bridge.proofs.Keeps.{out, setup-lawful}
 use Rattle.bridge.proofs.setup.Statement.{statement}
@@ -17,17 +15,17 @@ setup-fits-requires c κs = search needs
 fresh-requires : tie.Need-fresh-requires
 fresh-requires c κs = search needs
 
--- there are eight settings
-eight : (c : tie.After-setup-fits) → length (c .before .args .settings) ≡ 8
-eight c = omega (arith, c .before .good)
+-- there are eight settings, by what the seventh field of a setup is
+eight : (c : tie.After-setup-fits) → length (c .before .args .given .settings) ≡ 8
+eight c = sym (length-map (c .before .args .given .settings) _) ∙ c .before .good .0 .1 .1 .1 .1 .1 .1 .1 .1 .0 .1 .0 .1
 
 returns : tie.Need-returns
 returns c =
     let o = c .before .before in
-    out _ _ (ap (answers 0) (c .fresh .ensures) ∙ setup-done _ _ _ _ _ _ _ (sym (o .setup-fits .ensures) ∙ c .before .if1 .taken)) (setup-lawful _ _ _ _ _ _ _ (eight o))
+    out _ _ (ap (answers 0) (c .fresh .ensures) ∙ setup-done _ (sym (o .setup-fits .ensures) ∙ c .before .if1 .taken)) (setup-lawful _ (eight o))
 
-measured-settings-requires : tie.Need-measured-settings-requires
-measured-settings-requires c κs = search needs
+plain-setup-requires : tie.Need-plain-setup-requires
+plain-setup-requires c κs = search needs
 
 fresh-requires-2 : tie.Need-fresh-requires-2
 fresh-requires-2 c κs = search needs
@@ -37,9 +35,8 @@ returns-2 c =
     let m = c .before in
     let o = m .before .before in
     out _ _
-    (ap (answers 1) (c .fresh2 .ensures ∙ ap (freshOf 0 noMac noPrecedence false 0 0) (m .measured-settings .ensures))
-    ∙ setup-refused _ _ _ _ _ _ _ (sym (o .setup-fits .ensures) ∙ m .before .if1 .left))
-    (setup-lawful _ _ _ _ _ _ _ (eight o))
+    (ap (answers 1) (c .fresh2 .ensures ∙ ap freshOf (m .plain-setup .ensures)) ∙ setup-refused _ (sym (o .setup-fits .ensures) ∙ m .before .if1 .left))
+    (setup-lawful _ (eight o))
 
 pub setup-spec : {M : Type 1} → statement M
 setup-spec =
@@ -48,6 +45,6 @@ setup-spec =
     setup-fits-requires
     fresh-requires
     returns
-    measured-settings-requires
+    plain-setup-requires
     fresh-requires-2
     returns-2)

@@ -30,7 +30,7 @@ returns c =
       samples = kept i;
       pair = Set (a .f .local) (a .p);
       echo = Set (a .f .local) (a .p);
-      next = a .port .next;
+      count = a .port .count;
     }
 
 pub taken-spec : {M : Type 1} → statement M

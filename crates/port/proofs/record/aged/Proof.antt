@@ -1,4 +1,4 @@
--- By the announcement, and by how long ago it was announcement.
+-- By the announcement, and by how long ago it was heard.
 use native.Mathlib.Omega.{arith}
 use Rattle.port.proofs.PortLaws.{aged-silent, aged-fresh, aged-old}
 use borrow.Author.Needs.{needs}

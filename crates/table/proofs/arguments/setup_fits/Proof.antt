@@ -1,6 +1,5 @@
 -- Test by test.
 use borrow.Author.Needs.{needs}
-use native.Mathlib.Omega.{arith}
 use borrow.Author.Tests.{le-leb, lt-leb, lt-ltb, le-ltb}
 use Rattle.table.specs.Fits.{setupFits}
 use Rattle.table.proofs.arguments.setup_fits.Statement.{statement}
@@ -8,35 +7,32 @@ use Rattle.table.proofs.arguments.setup_fits.Tie as tie
 
 returns : tie.Need-returns
 unfolding setupFits
-returns c = rw (lt-leb 1 (c .before .args .n) (omega arith))
+returns c = rw (lt-leb _ _ (c .if1 .taken))
 
 returns-2 : tie.Need-returns-2
 unfolding setupFits
-returns-2 c = rw (le-leb 1 (c .before .before .args .n) (omega arith), lt-leb _ _ (c .if2 .taken))
+returns-2 c = rw (le-leb _ _ (c .before .before .if1 .left), lt-leb _ _ (c .if2 .taken))
 
 returns-3 : tie.Need-returns-3
 unfolding setupFits
 returns-3 c =
-    let e = c .before in
-    rw (le-leb 1 (e .before .before .args .n) (omega arith), le-leb _ _ (e .if2 .left), lt-leb _ _ (c .if3 .taken))
+    let b = c .before .before in
+    rw (le-leb _ _ (b .before .before .if1 .left), le-leb _ _ (b .if2 .left), lt-leb _ _ (c .if3 .taken))
 
 returns-4 : tie.Need-returns-4
 unfolding setupFits
 returns-4 c =
-    let e = c .before .before in
-    rw (le-leb 1 (e .before .before .args .n) (omega arith), le-leb _ _ (e .if2 .left), le-leb _ _ (c .before .if3 .left), lt-leb _ _ (c .if4 .taken))
+    let d = c .before .before in
+    let b = d .before .before in
+    rw (le-leb _ _ (b .before .before .if1 .left), le-leb _ _ (b .if2 .left), le-leb _ _ (d .if3 .left), lt-leb _ _ (c .if4 .taken))
 
 returns-5 : tie.Need-returns-5
 unfolding setupFits
 returns-5 c =
-    let e = c .before .before .before in
-    rw (
-      le-leb 1 (e .before .before .args .n) (omega arith),
-      le-leb _ _ (e .if2 .left),
-      le-leb _ _ (c .before .before .if3 .left),
-      le-leb _ _ (c .before .if4 .left),
-      le-ltb _ _ (c .if5 .taken),
-    )
+    let e = c .before .before in
+    let d = e .before .before in
+    let b = d .before .before in
+    rw (le-leb _ _ (b .before .before .if1 .left), le-leb _ _ (b .if2 .left), le-leb _ _ (d .if3 .left), le-leb _ _ (e .if4 .left), le-ltb _ _ (c .if5 .taken))
 
 delays-fit-requires : tie.Need-delays-fit-requires
 delays-fit-requires c κs = search needs
@@ -44,15 +40,11 @@ delays-fit-requires c κs = search needs
 returns-6 : tie.Need-returns-6
 unfolding setupFits
 returns-6 c =
-    let f = c .before in
-    let e = f .before .before .before in
-    rw (
-      le-leb 1 (e .before .before .args .n) (omega arith),
-      le-leb _ _ (e .if2 .left),
-      le-leb _ _ (f .before .before .if3 .left),
-      le-leb _ _ (f .before .if4 .left),
-      lt-ltb _ _ (f .if5 .left),
-    )
+    let f = c .before .before in
+    let e = f .before .before in
+    let d = e .before .before in
+    let b = d .before .before in
+    rw (le-leb _ _ (b .before .before .if1 .left), le-leb _ _ (b .if2 .left), le-leb _ _ (d .if3 .left), le-leb _ _ (e .if4 .left), lt-ltb _ _ (f .if5 .left))
     (c .delays-fit .ensures)
 
 pub setup-fits-spec : {M : Type 1} → statement M

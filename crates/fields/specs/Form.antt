@@ -1,0 +1,57 @@
+-- What the fields of a line say, by the row of their kinds.
+use Prim.Native.Nat.{ℕ, suc, _+_, _*_, _-_}
+use mathlib.Core.Bool.{Bool, false, cond}
+use mathlib.Core.List.{List, [], _∷_, _++_}
+use lib.ListN.{length, set, take, drop, replicate}
+use lib.Dec.{eqb}
+use Rattle.hexline.specs.Digit.{pairs}
+use Rattle.hexline.specs.Search.{upTo}
+use Rattle.fields.specs.Kind.{END}
+use Rattle.fields.specs.Field.{fieldAt}
+use Rattle.fields.specs.declared.field.Field.{Field}
+use Rattle.fields.specs.declared.Form.{Form}
+
+-- the most fields of a row, and the bytes of all of them
+abbrev pub mostFields : ℕ
+mostFields = 14
+
+abbrev pub mostBytes : ℕ
+mostBytes = 256
+
+-- the kinds before the row's end
+abbrev pub kindsOf : List ℕ → List ℕ
+kindsOf row = upTo END (take mostFields row)
+
+-- what is read so far: the fields' numbers and marks, and the bytes of all of them, of which so many are used
+pub record Held : Type 0 where
+  pub numbers : List ℕ
+  pub marked : List Bool
+  pub bytes : List ℕ
+  pub used : ℕ
+
+abbrev pub nothingHeld : Held
+nothingHeld = record { numbers = replicate mostFields 0; marked = replicate mostFields false; bytes = replicate mostBytes 0; used = 0 }
+
+-- with field i, whose bytes are `content`, put after those that are used
+abbrev pub stored : ℕ → Field → List ℕ → Held → Held
+stored i field content h = record {
+  numbers = set (h .numbers) i (field .number);
+  marked = set (h .marked) i (field .marked);
+  bytes = take (h .used) (h .bytes) ++ (content ++ drop (field .size) (drop (h .used) (h .bytes)));
+  used = h .used + field .size;
+}
+
+abbrev pub formWith : Bool → Held → Form
+formWith good h = record { good = good; numbers = h .numbers; marked = h .marked; bytes = h .bytes }
+
+-- the text from field i on, by the kinds from there on: a space and a field for each kind, and nothing more; it stops at the first that is not so
+unfoldable pub walk : List ℕ → List ℕ → ℕ → Held → Form
+walk [] text i h = formWith (eqb (length text) 0) h
+walk (kind ∷ kinds) text i h =
+    let field = fieldAt kind (mostBytes - h .used) text in
+    let content = pairs (take (field .size * 2) (drop 1 text)) in
+    cond (field .good) (walk kinds (drop (suc (field .width)) text) (i + 1) (stored i field content h)) (formWith false h)
+
+-- what `read` answers
+unfoldable pub formOf : List ℕ → List ℕ → Form
+formOf row text = walk (kindsOf row) text 0 nothingHeld
