@@ -1,6 +1,5 @@
 -- Laws of sent grand time: document 01's formula, each case of the rule, never below zero, and demand 3.
 use mathlib.Core.Path.{_≡_, refl, sym, ap, _∙_, subst}
-use mathlib.Core.Bool.{Bool, true, false, cond}
 use Prim.Native.Nat.{ℕ, suc, _+_, _<_, _≤_}
 use native.Mathlib.Nat.{le-of-lt}
 use native.Mathlib.Omega.{arith}
@@ -13,7 +12,6 @@ use Rattle.times.specs.declared.LocalTime.{LocalTime}
 use Rattle.times.specs.declared.GrandTime.{GrandTime}
 use Rattle.times.specs.declared.ErrorTime.{ErrorTime}
 use Rattle.times.specs.declared.Moment.{Moment}
-use Rattle.times.specs.declared.Moment.the-variants as Moments
 use Rattle.samples.specs.Rate.{scaledOf}
 use Rattle.samples.specs.Keep.{spreadOf, rateBetween, endsOf, LawfulEnds, LawfulSamples}
 use Rattle.samples.specs.declared.Sample.{Sample}
@@ -21,11 +19,12 @@ use Rattle.samples.specs.declared.Samples.{Samples}
 use Rattle.samples.specs.declared.Ends.{Ends}
 use Rattle.samples.specs.declared.Ends.the-variants.{Few as TooFew, Both}
 use Rattle.line.specs.Line.{InReach, readingAt, lineAt, NearLine}
-use Rattle.line.specs.Sent.{longestElapsed, reachOf, sentTime, sentAs, sentBy, sentOf}
-use Rattle.line.specs.declared.Sent.the-variants.{At, Late, Beyond}
-use Rattle.numbers.proofs.Branches.{if-true, if-false}
+use Rattle.line.specs.Sent.{longestElapsed, reachOf, sentTime, sentAs, sentBy, sentOf, sentNo}
+use Rattle.line.specs.declared.Sent.{Sent}
+use Rattle.line.specs.declared.Sent.the-variants.{At, Few, Late, Beyond}
+use Rattle.numbers.proofs.Branches.{if-true, if-false, if-when}
 use Rattle.numbers.proofs.Ring.{same, split, of-pos, neg-pos, minus-is, sub-lt, sub-ge, sub-+, sub-*, sub-neg-is}
-use Rattle.times.proofs.TimeLaws.{at-moment, beyond-moment}
+use Rattle.times.proofs.TimeLaws.{moment-is}
 use Rattle.samples.proofs.RateLaws.{scaled-small}
 use Rattle.samples.proofs.KeepLaws.{between-small, ends-lawful}
 use Rattle.line.proofs.Bound.{reading-near}
@@ -97,6 +96,36 @@ module _ (samples : Samples) (t : LocalTime) (back : ℕ) where
       → m ≡ momentOf (sentTime a b (sinceOf t (b .local)) back) → sentAs m (b .error) ≡ sentOf samples t back
   sent-as {a} {b} e h k = ap (λ (m : Moment). sentAs m (b .error)) k ∙ if-true _ _ _ (lt-ltb _ _ h) ∙ sent-by e
 
+  -- what holds in each case holds of what a frame carries
+  pub sent-is : (P : Sent → Type 0) → P Few → P Late
+      → ((a b : Sample) (g : GrandTime) → endsOf samples ≡ Both a b → sinceOf t (b .local) < longestElapsed
+      → InRange g → pos (units g) ≡ sentTime a b (sinceOf t (b .local)) back → P (At g (b .error)))
+      → ((a b : Sample) → endsOf samples ≡ Both a b → sinceOf t (b .local) < longestElapsed
+      → ((n : ℕ) → sentTime a b (sinceOf t (b .local)) back ≡ pos n → grandEnd ≤ n) → P Beyond)
+      → P (sentOf samples t back)
+  unfolding sentOf
+  sent-is P few late at beyond = by (endsOf samples) refl
+    where
+      by : (e : Ends) → endsOf samples ≡ e → P (sentBy e t back)
+      by TooFew k = few
+      by (Both a b) k =
+          if-when P (ltb (sinceOf t (b .local)) longestElapsed)
+          (λ e.
+          let l = ltb-true _ _ e in
+          moment-is (λ (m : Moment). P (sentAs m (b .error))) (sentTime a b (sinceOf t (b .local)) back) (λ g. at a b g k l) (beyond a b k l))
+          (λ _. late)
+
+  -- 13 is answered only where the sent time reaches the end of grand time: the part below zero never occurs
+  pub sent-beyond : LawfulSamples samples → back < longestElapsed → sentOf samples t back ≡ Beyond
+      → (a : Sample) × (b : Sample) × (endsOf samples ≡ Both a b) × (grandEnd ≤ atLeastZero (sentTime a b (sinceOf t (b .local)) back))
+  sent-beyond w hb =
+      sent-is
+      (λ (s : Sent). s ≡ Beyond → (a : Sample) × (b : Sample) × (endsOf samples ≡ Both a b) × (grandEnd ≤ atLeastZero (sentTime a b (sinceOf t (b .local)) back)))
+      (λ q. absurd (omega (arith, ap sentNo q)))
+      (λ q. absurd (omega (arith, ap sentNo q)))
+      (λ _ _ _ _ _ _ _ q. absurd (omega (arith, ap sentNo q)))
+      (λ a b k l end _. (a, b, k, end _ (sym (sent-units a b _ back l hb (ends-lawful samples a b w k)))))
+
 -- ---- what a time that is sent tells: the two ends of the samples, and the moment on the line through them
 
 pub record Departure (samples : Samples) (t : LocalTime) (back : ℕ) (g : GrandTime) (e : ErrorTime) : Type 0 where
@@ -110,24 +139,14 @@ pub record Departure (samples : Samples) (t : LocalTime) (back : ℕ) (g : Grand
 
 module _ (samples : Samples) (t : LocalTime) (back : ℕ) (g : GrandTime) (e : ErrorTime) where
   pub departure : sentOf samples t back ≡ At g e → Departure samples t back g e
-  unfolding sentOf
-  departure = by (endsOf samples) refl
-    where
-      held : (a b : Sample) (m : Moment) → endsOf samples ≡ Both a b → sinceOf t (b .local) < longestElapsed
-          → momentOf (sentTime a b (sinceOf t (b .local)) back) ≡ m → sentAs m (b .error) ≡ At g e → Departure samples t back g e
-      held a b (Moments.At h) k l n q =
-          let r = at-moment _ g (n ∙ ap Moments.At cc) in
-          record { oldest = a; newest = b; kept = k; soon = l; range = r .0; time = r .1; fault = cc }
-      held a b Moments.Beyond k l n q = let z : _≡_ {A = ℕ} 0 1 = cc in absurd (omega arith)
-
-      soon : (a b : Sample) (r : Bool) → endsOf samples ≡ Both a b → ltb (sinceOf t (b .local)) longestElapsed ≡ r
-          → cond r (sentAs (momentOf (sentTime a b (sinceOf t (b .local)) back)) (b .error)) Late ≡ At g e → Departure samples t back g e
-      soon a b true k l q = held a b _ k (ltb-true _ _ l) refl q
-      soon a b false k l q = let z : _≡_ {A = ℕ} 0 1 = cc in absurd (omega arith)
-
-      by : (x : Ends) → endsOf samples ≡ x → sentBy x t back ≡ At g e → Departure samples t back g e
-      by TooFew k q = let z : _≡_ {A = ℕ} 0 1 = cc in absurd (omega arith)
-      by (Both a b) k q = soon a b _ k refl q
+  departure =
+      sent-is samples t back (λ (s : Sent). s ≡ At g e → Departure samples t back g e)
+      (λ q. absurd (omega (arith, ap sentNo q)))
+      (λ q. absurd (omega (arith, ap sentNo q)))
+      (λ a b h k l r z q.
+      let p : h ≡ g = cc in
+      record { oldest = a; newest = b; kept = k; soon = l; range = subst InRange p r; time = ap (λ (x : GrandTime). pos (units x)) (sym p) ∙ z; fault = cc })
+      (λ _ _ _ _ _ q. absurd (omega (arith, ap sentNo q)))
 
   -- demand 3 for what a frame carries
   pub sent-near : (d : Departure samples t back g e) → LawfulSamples samples → back < longestElapsed
@@ -135,19 +154,3 @@ module _ (samples : Samples) (t : LocalTime) (back : ℕ) (g : GrandTime) (e : E
   sent-near d w hb =
       subst (λ (z : ℤ). NearLine (d .oldest) (d .newest) z (reachOf (sinceOf t (d .newest .local)) back) back) (sym (d .time))
       (time-near (d .oldest) (d .newest) (sinceOf t (d .newest .local)) back (d .soon) hb (ends-lawful samples (d .oldest) (d .newest) w (d .kept)))
-
--- 13 is answered only where the sent time reaches the end of grand time: the part below zero never occurs
-pub sent-beyond : (samples : Samples) (t : LocalTime) (back : ℕ) (a b : Sample) → LawfulSamples samples → back < longestElapsed
-    → endsOf samples ≡ Both a b → sentOf samples t back ≡ Beyond → grandEnd ≤ atLeastZero (sentTime a b (sinceOf t (b .local)) back)
-unfolding sentOf
-sent-beyond samples t back a b w hb k q = soon (ltb (sinceOf t (b .local)) longestElapsed) refl (ap (λ (x : Ends). sentBy x t back) (sym k) ∙ q)
-  where
-    none : (m : Moment) → sentAs m (b .error) ≡ Beyond → m ≡ Moments.Beyond
-    none (Moments.At g) f = let z : _≡_ {A = ℕ} 0 1 = cc in absurd (omega arith)
-    none Moments.Beyond f = refl
-
-    soon : (r : Bool) → ltb (sinceOf t (b .local)) longestElapsed ≡ r
-        → cond r (sentAs (momentOf (sentTime a b (sinceOf t (b .local)) back)) (b .error)) Late ≡ Beyond
-        → grandEnd ≤ atLeastZero (sentTime a b (sinceOf t (b .local)) back)
-    soon true l f = beyond-moment _ (ap momentOf (sent-units a b (sinceOf t (b .local)) back (ltb-true _ _ l) hb (ends-lawful samples a b w k)) ∙ none _ f)
-    soon false l f = let z : _≡_ {A = ℕ} 0 1 = cc in absurd (omega arith)

@@ -1,16 +1,17 @@
 -- Laws of local and grand time: a difference lies on the circle, and a grand time and the moment of its units.
 use mathlib.Core.Path.{_≡_, refl, sym, ap, _∙_}
-use mathlib.Core.Bool.{Bool, true, false, cond}
 use Prim.Native.Nat.{ℕ, zero, suc, _+_, _-_, _/_, _%_, _^_, _<_, _≤_}
 use native.Mathlib.Nat.{add-mod, mod-lt}
 use native.Mathlib.Omega.{arith}
 use borrow.Author.Tests.{lt-ltb, le-ltb, ltb-true, ltb-false}
 use lib.Dec.{lit<, ltb}
-use lib.IntN.{ℤ, pos, negsuc, _-ℤ_}
+use lib.IntN.{ℤ, pos, negsuc, natAbs, _-ℤ_, pos-ne-negsuc}
 use Rattle.times.specs.Times.{circle, second, grandEnd, sinceOf, units, grandOf, InRange, momentOf}
 use Rattle.times.specs.declared.LocalTime.{LocalTime}
 use Rattle.times.specs.declared.GrandTime.{GrandTime}
+use Rattle.times.specs.declared.Moment.{Moment}
 use Rattle.times.specs.declared.Moment.the-variants.{At, Beyond}
+use Rattle.numbers.proofs.Branches.{if-when}
 
 -- a difference is less than the circle
 pub since-lt : (a b : LocalTime) → sinceOf a b < circle
@@ -61,24 +62,12 @@ unfolding momentOf
 moment-under a zero h = absurd (omega arith)
 moment-under a (suc b) h = rw (lt-ltb a (suc b) h)
 
--- a moment is a grand time in range, of so many units
-pub at-moment : (z : ℤ) (g : GrandTime) → momentOf z ≡ At g → InRange g × (pos (units g) ≡ z)
+-- what holds of a grand time in range, of so many units, and of Beyond where the units reach the end or are below zero, holds of the moment
+pub moment-is : (P : Moment → Type 0) (z : ℤ) → ((g : GrandTime) → InRange g → pos (units g) ≡ z → P (At g))
+    → (((n : ℕ) → z ≡ pos n → grandEnd ≤ n) → P Beyond) → P (momentOf z)
 unfolding momentOf
-at-moment (pos n) g e = go (ltb n grandEnd) refl e
-  where
-    go : (t : Bool) → ltb n grandEnd ≡ t → cond t (At (grandOf n)) Beyond ≡ At g → InRange g × (pos (units g) ≡ pos n)
-    go true k f =
-        let q : g ≡ grandOf n = cc in
-        let h = ltb-true n grandEnd k in
-        rw q (record { seconds = omega arith; fraction = omega arith }, ap pos (omega arith))
-    go false k f = let z : _≡_ {A = ℕ} 0 1 = cc in absurd (omega arith)
-at-moment (negsuc n) g e = let z : _≡_ {A = ℕ} 0 1 = cc in absurd (omega arith)
-
--- a number that has none reaches the end of grand time
-pub beyond-moment : (n : ℕ) → momentOf (pos n) ≡ Beyond → grandEnd ≤ n
-unfolding momentOf
-beyond-moment n e = go (ltb n grandEnd) refl e
-  where
-    go : (t : Bool) → ltb n grandEnd ≡ t → cond t (At (grandOf n)) Beyond ≡ Beyond → grandEnd ≤ n
-    go true k f = let z : _≡_ {A = ℕ} 0 1 = cc in absurd (omega arith)
-    go false k f = ltb-false n grandEnd k
+moment-is P (pos n) at beyond =
+    if-when P (ltb n grandEnd)
+    (λ e. let h = ltb-true n grandEnd e in at (grandOf n) (record { seconds = omega arith; fraction = omega arith }) (ap pos (omega arith)))
+    (λ e. beyond (λ m q. omega (arith, ltb-false n grandEnd e, ap natAbs q)))
+moment-is P (negsuc n) at beyond = beyond (λ m q. absurd (pos-ne-negsuc m n (sym q)))
