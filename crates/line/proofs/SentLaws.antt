@@ -19,7 +19,7 @@ use Rattle.samples.specs.declared.Samples.{Samples}
 use Rattle.samples.specs.declared.Ends.{Ends}
 use Rattle.samples.specs.declared.Ends.the-variants.{Few as TooFew, Both}
 use Rattle.line.specs.Line.{InReach, readingAt, lineAt, NearLine}
-use Rattle.line.specs.Sent.{longestElapsed, reachOf, sentTime, sentAs, sentBy, sentOf, sentNo}
+use Rattle.line.specs.Sent.{longestElapsed, reachOf, sentTime, sentAs, sentThrough, sentOf, sentNo}
 use Rattle.line.specs.declared.Sent.{Sent}
 use Rattle.line.specs.declared.Sent.the-variants.{At, Few, Late, Beyond}
 use Rattle.numbers.proofs.Branches.{if-true, if-false, if-when}
@@ -85,16 +85,16 @@ module _ (a b : Sample) (elapsed back : ℕ) where
 -- ---- what a frame carries, case by case
 
 module _ (samples : Samples) (t : LocalTime) (back : ℕ) where
-  pub sent-by : {e : Ends} → e ≡ endsOf samples → sentBy e t back ≡ sentOf samples t back
+  pub sent-through : {e : Ends} → e ≡ endsOf samples → sentThrough e t back ≡ sentOf samples t back
   unfolding sentOf
-  sent-by e = ap (λ (x : Ends). sentBy x t back) e
+  sent-through e = ap (λ (x : Ends). sentThrough x t back) e
 
   pub sent-late : {a b : Sample} → Both a b ≡ endsOf samples → longestElapsed ≤ sinceOf t (b .local) → Late ≡ sentOf samples t back
-  sent-late e h = if-false _ _ _ (le-ltb _ _ h) ∙ sent-by e
+  sent-late e h = if-false _ _ _ (le-ltb _ _ h) ∙ sent-through e
 
   pub sent-as : {a b : Sample} {m : Moment} → Both a b ≡ endsOf samples → sinceOf t (b .local) < longestElapsed
       → m ≡ momentOf (sentTime a b (sinceOf t (b .local)) back) → sentAs m (b .error) ≡ sentOf samples t back
-  sent-as {a} {b} e h k = ap (λ (m : Moment). sentAs m (b .error)) k ∙ if-true _ _ _ (lt-ltb _ _ h) ∙ sent-by e
+  sent-as {a} {b} e h k = ap (λ (m : Moment). sentAs m (b .error)) k ∙ if-true _ _ _ (lt-ltb _ _ h) ∙ sent-through e
 
   -- what holds in each case holds of what a frame carries
   pub sent-is : (P : Sent → Type 0) → P Few → P Late
@@ -106,7 +106,7 @@ module _ (samples : Samples) (t : LocalTime) (back : ℕ) where
   unfolding sentOf
   sent-is P few late at beyond = by (endsOf samples) refl
     where
-      by : (e : Ends) → endsOf samples ≡ e → P (sentBy e t back)
+      by : (e : Ends) → endsOf samples ≡ e → P (sentThrough e t back)
       by TooFew k = few
       by (Both a b) k =
           if-when P (ltb (sinceOf t (b .local)) longestElapsed)

@@ -21,12 +21,12 @@ unfoldable pub ppmOf : ℤ → Float
 ppmOf rate = round binary64 (not (nonNeg rate)) (natAbs rate * million) parts
 
 -- the drift of a clock, by the two ends of its samples
-abbrev pub driftBy : Ends → Drift
-driftBy Few = NoReading
-driftBy (Both a b) = PartsPerMillion (ppmOf (rateBetween a b))
+abbrev pub driftThrough : Ends → Drift
+driftThrough Few = NoReading
+driftThrough (Both a b) = PartsPerMillion (ppmOf (rateBetween a b))
 
 unfoldable pub driftOf : Samples → Drift
-driftOf samples = driftBy (endsOf samples)
+driftOf samples = driftThrough (endsOf samples)
 
 -- the refusal's number
 abbrev pub driftNo : Drift → ℕ

@@ -36,13 +36,13 @@ sentAs (Moments.At g) e = At g e
 sentAs Moments.Beyond e = Beyond
 
 -- what a frame that departs at t carries, by the two ends of the samples
-abbrev pub sentBy : Ends → LocalTime → ℕ → Sent
-sentBy TooFew t back = Few
-sentBy (Both a b) t back =
+abbrev pub sentThrough : Ends → LocalTime → ℕ → Sent
+sentThrough TooFew t back = Few
+sentThrough (Both a b) t back =
     cond (ltb (sinceOf t (b .local)) longestElapsed) (sentAs (momentOf (sentTime a b (sinceOf t (b .local)) back)) (b .error)) Late
 
 unfoldable pub sentOf : Samples → LocalTime → ℕ → Sent
-sentOf samples t back = sentBy (endsOf samples) t back
+sentOf samples t back = sentThrough (endsOf samples) t back
 
 -- the refusal's number
 abbrev pub sentNo : Sent → ℕ

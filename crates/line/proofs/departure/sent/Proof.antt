@@ -12,7 +12,7 @@ use Rattle.samples.specs.declared.Ends.the-variants.{Both}
 use Rattle.line.specs.Sent.{longestElapsed, reachOf, sentTime}
 use Rattle.numbers.proofs.Machine.{got}
 use Rattle.samples.proofs.KeepLaws.{ends-lawful}
-use Rattle.line.proofs.SentLaws.{in-reach, sent-by, sent-late, sent-as}
+use Rattle.line.proofs.SentLaws.{in-reach, sent-through, sent-late, sent-as}
 use Rattle.line.proofs.departure.sent.Statement.{statement}
 use Rattle.line.proofs.departure.sent.Tie as tie
 
@@ -81,7 +81,7 @@ enum-told-2 : tie.Need-enum-told-2
 enum-told-2 c = search needs
 
 returns-2 : tie.Need-returns-2
-returns-2 c = sent-by _ _ _ (sym (c .enum-told .given .1) ∙ c .before .before .ends .ensures)
+returns-2 c = sent-through _ _ _ (sym (c .enum-told .given .1) ∙ c .before .before .ends .ensures)
 
 returns-3 : tie.Need-returns-3
 returns-3 c =

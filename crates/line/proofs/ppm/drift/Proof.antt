@@ -6,7 +6,7 @@ use mir.Val.{toZ, ofZ}
 use Rattle.samples.specs.Keep.{rateBetween, endsOf, LawfulEnds}
 use Rattle.samples.specs.declared.Sample.{Sample}
 use Rattle.samples.specs.declared.Ends.the-variants.{Both}
-use Rattle.line.specs.Drift.{ppmOf, driftBy, driftOf}
+use Rattle.line.specs.Drift.{ppmOf, driftThrough, driftOf}
 use Rattle.line.specs.declared.Drift.the-variants.{PartsPerMillion}
 use Rattle.numbers.proofs.Machine.{got}
 use Rattle.samples.proofs.KeepLaws.{between-small, ends-lawful}
@@ -47,12 +47,12 @@ parts-per-million-requires c κs = rw (rate-is c) (between-small _ _ (lawful (c 
 
 returns : tie.Need-returns
 unfolding driftOf
-returns c = ap driftBy (sym (c .enum-told .given .1) ∙ c .before .before .ends .ensures)
+returns c = ap driftThrough (sym (c .enum-told .given .1) ∙ c .before .before .ends .ensures)
 
 returns-2 : tie.Need-returns-2
 unfolding driftOf
 returns-2 c =
-    ap PartsPerMillion (c .parts-per-million .ensures ∙ ap ppmOf (rate-is (c .before))) ∙ ap driftBy (both (c .before .before .before))
+    ap PartsPerMillion (c .parts-per-million .ensures ∙ ap ppmOf (rate-is (c .before))) ∙ ap driftThrough (both (c .before .before .before))
 
 pub drift-spec : {M : Type 1} → statement M
 drift-spec =
