@@ -24,7 +24,7 @@ use Rattle.console.proofs.AnswerLaws.{formed-long, answer-bad}
 -- ---- lists
 
 -- a part is its own parts
-parts : (s : List ℕ) (from mid to : ℕ) → from ≤ mid → mid ≤ to → part s from to ≡ part s from mid ++ part s mid to
+pub parts : (s : List ℕ) (from mid to : ℕ) → from ≤ mid → mid ≤ to → part s from to ≡ part s from mid ++ part s mid to
 parts s from mid to h k =
     let n : to - from ≡ mid - from + (to - mid) = omega arith in
     let m : from + (mid - from) ≡ mid = omega arith in

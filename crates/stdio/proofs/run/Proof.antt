@@ -2,15 +2,15 @@
 use mathlib.Core.Path.{_≡_}
 use borrow.Author.Needs.{needs}
 use lib.ListN.{length}
-use Rattle.listing.specs.Listing.{Ready}
-use Rattle.listing.proofs.main.Statement.{statement}
-use Rattle.listing.proofs.main.Tie as tie
+use Rattle.session.specs.Session.{Ready}
+use Rattle.stdio.proofs.run.Statement.{statement}
+use Rattle.stdio.proofs.run.Tie as tie
 
 abbrev Inv-loop : tie.InvT-loop
-Inv-loop s₀ input₀ output₀ going₀ turns₀ t8 s input output going turns = Ready s × (length input ≡ 65536) × (length output ≡ 65536) × (length t8 ≡ 1)
+Inv-loop program s₀ input₀ output₀ going₀ turns₀ t9 s input output going turns = Ready s × (length input ≡ 65536) × (length output ≡ 65536) × (length t9 ≡ 1)
 
 abbrev μ-loop : tie.MeasureT-loop
-μ-loop s₀ input₀ output₀ going₀ turns₀ t8 s input output going turns = turns
+μ-loop program s₀ input₀ output₀ going₀ turns₀ t9 s input output going turns = turns
 
 start-requires : tie.Need-start-requires Inv-loop μ-loop
 start-requires c κs = search needs
@@ -39,14 +39,14 @@ count-requires c κs = search needs
 array-share-prefix-input : tie.Need-array-share-prefix-input Inv-loop μ-loop
 array-share-prefix-input c = search needs
 
-slice-aggregate-fed : tie.Need-slice-aggregate-fed Inv-loop μ-loop
-slice-aggregate-fed c = search needs
+slice-aggregate-answered : tie.Need-slice-aggregate-answered Inv-loop μ-loop
+slice-aggregate-answered c = search needs
 
-slice-aggregate-fed-2 : tie.Need-slice-aggregate-fed-2 Inv-loop μ-loop
-slice-aggregate-fed-2 c = search needs
+slice-aggregate-answered-2 : tie.Need-slice-aggregate-answered-2 Inv-loop μ-loop
+slice-aggregate-answered-2 c = search needs
 
-fed-requires : tie.Need-fed-requires Inv-loop μ-loop
-fed-requires c κs = search needs
+answered-requires : tie.Need-answered-requires Inv-loop μ-loop
+answered-requires c κs = search needs
 
 sub-turns : tie.Need-sub-turns Inv-loop μ-loop
 sub-turns c = search needs
@@ -57,14 +57,14 @@ loop-less c = search needs
 loop-again : tie.Need-loop-again Inv-loop μ-loop
 loop-again c = search needs
 
-slice-aggregate-fed-3 : tie.Need-slice-aggregate-fed-3 Inv-loop μ-loop
-slice-aggregate-fed-3 c = search needs
+slice-aggregate-answered-3 : tie.Need-slice-aggregate-answered-3 Inv-loop μ-loop
+slice-aggregate-answered-3 c = search needs
 
-slice-aggregate-fed-4 : tie.Need-slice-aggregate-fed-4 Inv-loop μ-loop
-slice-aggregate-fed-4 c = search needs
+slice-aggregate-answered-4 : tie.Need-slice-aggregate-answered-4 Inv-loop μ-loop
+slice-aggregate-answered-4 c = search needs
 
-fed-requires-2 : tie.Need-fed-requires-2 Inv-loop μ-loop
-fed-requires-2 c κs = search needs
+answered-requires-2 : tie.Need-answered-requires-2 Inv-loop μ-loop
+answered-requires-2 c κs = search needs
 
 returns : tie.Need-returns Inv-loop μ-loop
 returns c = search needs
@@ -72,8 +72,8 @@ returns c = search needs
 returns-2 : tie.Need-returns-2 Inv-loop μ-loop
 returns-2 c = search needs
 
-pub main-spec : {M : Type 1} → statement M
-main-spec =
+pub run-spec : {M : Type 1} → statement M
+run-spec =
     tie.close
     (tie.spec
     Inv-loop
@@ -87,14 +87,14 @@ main-spec =
     slice-aggregate-count
     count-requires
     array-share-prefix-input
-    slice-aggregate-fed
-    slice-aggregate-fed-2
-    fed-requires
+    slice-aggregate-answered
+    slice-aggregate-answered-2
+    answered-requires
     sub-turns
     loop-less
     loop-again
-    slice-aggregate-fed-3
-    slice-aggregate-fed-4
-    fed-requires-2
+    slice-aggregate-answered-3
+    slice-aggregate-answered-4
+    answered-requires-2
     returns
     returns-2)
