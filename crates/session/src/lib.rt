@@ -176,10 +176,11 @@ pub fn turn(program: Program, s: Session, bytes: &[u8], from: usize, out: &mut [
     let first = answer_line(program, b, &text[..len], out);
     let lines = whole_lines(program, first.next, bytes, end + 1, out, first.len);
     let next = lines.next;
+    let left: usize = 0;
     let session = Session {
         bridge: next,
         text: text,
-        len: 0,
+        len: left,
     };
     Progress {
         session: session,
