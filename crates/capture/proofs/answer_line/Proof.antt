@@ -7,15 +7,6 @@ use borrow.Author.Needs.{needs}
 use Rattle.capture.proofs.answer_line.Statement.{statement}
 use Rattle.capture.proofs.answer_line.Tie as tie
 
-is-line-requires : tie.Need-is-line-requires
-is-line-requires c κs = search needs
-
-told-requires : tie.Need-told-requires
-told-requires c κs = search needs
-
-same-length : tie.Need-same-length
-same-length c = search needs
-
 returns : tie.Need-returns
 returns c =
     let t = c .before .before in
@@ -28,12 +19,6 @@ received-requires : tie.Need-received-requires
 received-requires c κs =
     let l = c .before in
     (l .before .before .before .pre .0, sym (l .is-line .ensures) ∙ not-false _ (c .if1 .left))
-
-told-requires-2 : tie.Need-told-requires-2
-told-requires-2 c κs = search needs
-
-same-length-2 : tie.Need-same-length-2
-same-length-2 c = search needs
 
 returns-2 : tie.Need-returns-2
 returns-2 c =
@@ -48,11 +33,11 @@ pub answer-line-spec : {M : Type 1} → statement M
 answer-line-spec =
     tie.close
     (tie.spec
-    is-line-requires
-    told-requires
-    same-length
+    (λ c κs. search needs)
+    (λ c κs. search needs)
+    (λ c. search needs)
     returns
     received-requires
-    told-requires-2
-    same-length-2
+    (λ c κs. search needs)
+    (λ c. search needs)
     returns-2)

@@ -7,9 +7,6 @@ use borrow.Author.Needs.{needs}
 use Rattle.capture.proofs.is_line.Statement.{statement}
 use Rattle.capture.proofs.is_line.Tie as tie
 
-all-requires : tie.Need-all-requires
-all-requires c κs = search needs
-
 returns : tie.Need-returns
 unfolding isLine
 returns c = c .all .ensures ∙ if-true _ _ _ (eq-eqb _ _ (c .before .if1 .taken))
@@ -19,4 +16,4 @@ unfolding isLine
 returns-2 c = if-false _ _ _ (ne-eqb _ _ (c .if1 .left))
 
 pub is-line-spec : {M : Type 1} → statement M
-is-line-spec = tie.close (tie.spec all-requires returns returns-2)
+is-line-spec = tie.close (tie.spec (λ c κs. search needs) returns returns-2)

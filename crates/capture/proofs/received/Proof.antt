@@ -10,32 +10,8 @@ use borrow.Author.Needs.{needs}
 use Rattle.capture.proofs.received.Statement.{statement}
 use Rattle.capture.proofs.received.Tie as tie
 
-slice-aggregate-bytes : tie.Need-slice-aggregate-bytes
-slice-aggregate-bytes c = search needs
-
 bytes-requires : tie.Need-bytes-requires
 bytes-requires c κs = line-length _ (c .before .before .pre .1)
-
-slice-aggregate-number-at : tie.Need-slice-aggregate-number-at
-slice-aggregate-number-at c = search needs
-
-number-at-requires : tie.Need-number-at-requires
-number-at-requires c κs = search needs
-
-array-read-receive : tie.Need-array-read-receive
-array-read-receive c = search needs
-
-sub-receive : tie.Need-sub-receive
-sub-receive c = search needs
-
-part-receive-start : tie.Need-part-receive-start
-part-receive-start c = search needs
-
-part-receive-end : tie.Need-part-receive-end
-part-receive-end c = search needs
-
-receive-requires : tie.Need-receive-requires
-receive-requires c κs = search needs
 
 returns : tie.Need-returns
 returns c =
@@ -50,13 +26,13 @@ pub received-spec : {M : Type 1} → statement M
 received-spec =
     tie.close
     (tie.spec
-    slice-aggregate-bytes
+    (λ c. search needs)
     bytes-requires
-    slice-aggregate-number-at
-    number-at-requires
-    array-read-receive
-    sub-receive
-    part-receive-start
-    part-receive-end
-    receive-requires
+    (λ c. search needs)
+    (λ c κs. search needs)
+    (λ c. search needs)
+    (λ c. search needs)
+    (λ c. search needs)
+    (λ c. search needs)
+    (λ c κs. search needs)
     returns)

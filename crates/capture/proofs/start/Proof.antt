@@ -10,15 +10,6 @@ use borrow.Author.Needs.{needs}
 use Rattle.capture.proofs.start.Statement.{statement}
 use Rattle.capture.proofs.start.Tie as tie
 
-measured-requires : tie.Need-measured-requires
-measured-requires c κs = search needs
-
-setup-requires : tie.Need-setup-requires
-setup-requires c κs = search needs
-
-links-requires : tie.Need-links-requires
-links-requires c κs = search needs
-
 returns : tie.Need-returns
 unfolding startOf
 returns c =
@@ -30,4 +21,4 @@ returns c =
     (ap (λ (x : Linked). x .next) (l .links .ensures .0 ∙ ap (λ (x : Done). linksOf (x .next) bothLinked) set), l .links .ensures .1)
 
 pub start-spec : {M : Type 1} → statement M
-start-spec = tie.close (tie.spec measured-requires setup-requires links-requires returns)
+start-spec = tie.close (tie.spec (λ c κs. search needs) (λ c κs. search needs) (λ c κs. search needs) returns)

@@ -10,17 +10,11 @@ use borrow.Author.Needs.{needs}
 use Rattle.capture.proofs.three.Statement.{statement}
 use Rattle.capture.proofs.three.Tie as tie
 
-slice-relend-prefix-put-three : tie.Need-slice-relend-prefix-put-three
-slice-relend-prefix-put-three c = search needs
-
 slice-aggregate-put-three : tie.Need-slice-aggregate-put-three
 slice-aggregate-put-three c = sym (length-take-le 9 (c .before .before .args .out .now) (omega arith))
 
 put-three-requires : tie.Need-put-three-requires
 put-three-requires c κs = length-take-le 9 (c .before .before .args .out .now) (omega arith)
-
-same-length : tie.Need-same-length
-same-length c = search needs
 
 returns : tie.Need-returns
 unfolding textOf threeOf
@@ -33,8 +27,8 @@ pub three-spec : {M : Type 1} → statement M
 three-spec =
     tie.close
     (tie.spec
-    slice-relend-prefix-put-three
+    (λ c. search needs)
     slice-aggregate-put-three
     put-three-requires
-    same-length
+    (λ c. search needs)
     returns)

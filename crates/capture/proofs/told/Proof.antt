@@ -6,24 +6,6 @@ use borrow.Author.Needs.{needs}
 use Rattle.capture.proofs.told.Statement.{statement}
 use Rattle.capture.proofs.told.Tie as tie
 
-chosen-requires : tie.Need-chosen-requires
-chosen-requires c κs = search needs
-
-enum-told : tie.Need-enum-told
-enum-told c = search needs
-
-three-requires : tie.Need-three-requires
-three-requires c κs = search needs
-
-enum-known-hop : tie.Need-enum-known-hop
-enum-known-hop c = search needs
-
-three-requires-2 : tie.Need-three-requires-2
-three-requires-2 c κs = search needs
-
-same-length : tie.Need-same-length
-same-length c = search needs
-
 returns : tie.Need-returns
 returns c =
     let t = c .before .before in
@@ -31,9 +13,6 @@ returns c =
     let h = e .before .before in
     let s = h .before .before in
     record { state = refl; prints = as-prints (ap (toldText (s .args .answer)) (sym (e .enum-told .given .1) ∙ h .chosen .ensures)) (t .three .ensures); lawful = s .pre .0 }
-
-same-length-2 : tie.Need-same-length-2
-same-length-2 c = search needs
 
 returns-2 : tie.Need-returns-2
 returns-2 c =
@@ -47,12 +26,12 @@ pub told-spec : {M : Type 1} → statement M
 told-spec =
     tie.close
     (tie.spec
-    chosen-requires
-    enum-told
-    three-requires
-    enum-known-hop
-    three-requires-2
-    same-length
+    (λ c κs. search needs)
+    (λ c. search needs)
+    (λ c κs. search needs)
+    (λ c. search needs)
+    (λ c κs. search needs)
+    (λ c. search needs)
     returns
-    same-length-2
+    (λ c. search needs)
     returns-2)

@@ -7,30 +7,12 @@ use borrow.Author.Needs.{needs}
 use Rattle.session.proofs.answer_line.Statement.{statement}
 use Rattle.session.proofs.answer_line.Tie as tie
 
-enum-told : tie.Need-enum-told
-enum-told c = search needs
-
-answer-line-requires : tie.Need-answer-line-requires
-answer-line-requires c κs = search needs
-
-enum-told-2 : tie.Need-enum-told-2
-enum-told-2 c = search needs
-
-answer-line-requires-2 : tie.Need-answer-line-requires-2
-answer-line-requires-2 c κs = search needs
-
-same-length : tie.Need-same-length
-same-length c = search needs
-
 returns : tie.Need-returns
 returns c =
     let a = c .before .before in
     let e = a .before .before in
     let s = e .before .before .before .before in
     as-says (ap (λ (x : Program). answerBy x (s .args .b) (s .args .text .now)) (sym (e .enum-told .given .1))) (a .answer-line .ensures)
-
-same-length-2 : tie.Need-same-length-2
-same-length-2 c = search needs
 
 returns-2 : tie.Need-returns-2
 returns-2 c =
@@ -43,11 +25,11 @@ pub answer-line-spec : {M : Type 1} → statement M
 answer-line-spec =
     tie.close
     (tie.spec
-    enum-told
-    answer-line-requires
-    enum-told-2
-    answer-line-requires-2
-    same-length
+    (λ c. search needs)
+    (λ c κs. search needs)
+    (λ c. search needs)
+    (λ c κs. search needs)
+    (λ c. search needs)
     returns
-    same-length-2
+    (λ c. search needs)
     returns-2)

@@ -25,15 +25,6 @@ within c = ltb-true _ _ (c .before .if1 .taken)
 loop-holds : tie.Need-loop-holds Inv-loop μ-loop
 loop-holds c = (refl, c .pre .0, c .pre .1)
 
-shared-slice-read-text : tie.Need-shared-slice-read-text Inv-loop μ-loop
-shared-slice-read-text c = search needs
-
-element-write-text : tie.Need-element-write-text Inv-loop μ-loop
-element-write-text c = search needs
-
-add-n : tie.Need-add-n Inv-loop μ-loop
-add-n c = search needs
-
 add-i : tie.Need-add-i Inv-loop μ-loop
 add-i c = omega (arith, within c)
 
@@ -64,9 +55,9 @@ kept-spec =
     Inv-loop
     μ-loop
     loop-holds
-    shared-slice-read-text
-    element-write-text
-    add-n
+    (λ c. search needs)
+    (λ c. search needs)
+    (λ c. search needs)
     add-i
     loop-less
     loop-again

@@ -7,12 +7,6 @@ use borrow.Author.Needs.{needs}
 use Rattle.session.proofs.no_bridge.Statement.{statement}
 use Rattle.session.proofs.no_bridge.Tie as tie
 
-measured-requires : tie.Need-measured-requires
-measured-requires c κs = search needs
-
-setup-requires : tie.Need-setup-requires
-setup-requires c κs = search needs
-
 returns : tie.Need-returns
 unfolding setupFits
 returns c =
@@ -20,4 +14,4 @@ returns c =
     (ap (λ (x : Done). x .next) (u .setup .ensures .0 ∙ sym (setup-refused _ _ _ _ _ _ _ refl)), u .setup .ensures .1)
 
 pub no-bridge-spec : {M : Type 1} → statement M
-no-bridge-spec = tie.close (tie.spec measured-requires setup-requires returns)
+no-bridge-spec = tie.close (tie.spec (λ c κs. search needs) (λ c κs. search needs) returns)

@@ -29,20 +29,8 @@ short c = omega (arith, rw length-take at (c .kept .ensures .0))
 newline : (c : tie.Else1) → c .before .before .before .before .found .result < length (c .before .before .before .before .before .before .before .before .before .args .bytes .now)
 newline c = omega (arith, c .if1 .left, ends (c .before .before .before .before))
 
-found-requires : tie.Need-found-requires
-found-requires c κs = search needs
-
-sub-kept : tie.Need-sub-kept
-sub-kept c = search needs
-
-part-kept-start : tie.Need-part-kept-start
-part-kept-start c = search needs
-
 part-kept-end : tie.Need-part-kept-end
 part-kept-end c = ends (c .before)
-
-kept-requires : tie.Need-kept-requires
-kept-requires c κs = search needs
 
 returns : tie.Need-returns
 returns c =
@@ -66,9 +54,6 @@ slice-aggregate-answer-line c =
     let k = c .before .before in
     sym (length-take-le _ _ (omega (arith, short k, k .kept .ensures .1 .1)))
 
-answer-line-requires : tie.Need-answer-line-requires
-answer-line-requires c κs = search needs
-
 add-whole-lines : tie.Need-add-whole-lines
 add-whole-lines c =
     let i = c .before .before .before .before .before in
@@ -80,9 +65,6 @@ whole-lines-requires c κs =
     let i = a .before .before .before in
     let s = i .before .before .before .before .before .before .before .before .before in
     (a .answer-line .ensures .lawful, (omega (arith, newline i), omega (arith, a .answer-line .ensures .prints .fits, a .answer-line .kept .1 .1 .1 .0, s .pre .1 .1)))
-
-same-length : tie.Need-same-length
-same-length c = search needs
 
 returns-2 : tie.Need-returns-2
 returns-2 c =
@@ -114,16 +96,16 @@ pub turn-spec : {M : Type 1} → statement M
 turn-spec =
     tie.close
     (tie.spec
-    found-requires
-    sub-kept
-    part-kept-start
+    (λ c κs. search needs)
+    (λ c. search needs)
+    (λ c. search needs)
     part-kept-end
-    kept-requires
+    (λ c κs. search needs)
     returns
     array-share-prefix-text
     slice-aggregate-answer-line
-    answer-line-requires
+    (λ c κs. search needs)
     add-whole-lines
     whole-lines-requires
-    same-length
+    (λ c. search needs)
     returns-2)

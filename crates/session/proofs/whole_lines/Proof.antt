@@ -29,34 +29,10 @@ abbrev μ-loop : tie.MeasureT-loop
 room : (c : tie.Then1 Inv-loop μ-loop) → longest ≤ length (c .before .before .loop .out) - c .before .before .loop .n
 room c = leb-true _ _ (c .if1 .taken)
 
-found-requires : tie.Need-found-requires Inv-loop μ-loop
-found-requires c κs = search needs
-
 loop-holds : tie.Need-loop-holds Inv-loop μ-loop
 loop-holds c =
     let s = c .before .before .before in
     (s .pre .0, record { onward = omega arith; inside = s .pre .1 .0; fits = s .pre .1 .1 }, lines-none (s .args .program) (s .args .b) (s .args .bytes .now) _ (s .args .from), c .found .ensures, refl, omega arith, omega arith)
-
-sub-if1 : tie.Need-sub-if1 Inv-loop μ-loop
-sub-if1 c = search needs
-
-sub-answer-line : tie.Need-sub-answer-line Inv-loop μ-loop
-sub-answer-line c = search needs
-
-part-answer-line-start : tie.Need-part-answer-line-start Inv-loop μ-loop
-part-answer-line-start c = search needs
-
-part-answer-line-end : tie.Need-part-answer-line-end Inv-loop μ-loop
-part-answer-line-end c = search needs
-
-sub-answer-line-2 : tie.Need-sub-answer-line-2 Inv-loop μ-loop
-sub-answer-line-2 c = search needs
-
-part-answer-line-start-2 : tie.Need-part-answer-line-start-2 Inv-loop μ-loop
-part-answer-line-start-2 c = search needs
-
-part-answer-line-end-2 : tie.Need-part-answer-line-end-2 Inv-loop μ-loop
-part-answer-line-end-2 c = search needs
 
 answer-line-requires : tie.Need-answer-line-requires Inv-loop μ-loop
 answer-line-requires c κs =
@@ -69,15 +45,6 @@ add-n c =
     let a = c .before .before .before .before in
     let i = a .before .before .before in
     omega (arith, room i, i .before .before .loop .inv, a .answer-line .ensures .prints .fits)
-
-add-start : tie.Need-add-start Inv-loop μ-loop
-add-start c = search needs
-
-found-requires-2 : tie.Need-found-requires-2 Inv-loop μ-loop
-found-requires-2 c κs = search needs
-
-loop-less : tie.Need-loop-less Inv-loop μ-loop
-loop-less c = search needs
 
 loop-again : tie.Need-loop-again Inv-loop μ-loop
 loop-again c =
@@ -102,15 +69,6 @@ loop-again c =
       l .inv .6,
     )
 
-same-length : tie.Need-same-length Inv-loop μ-loop
-same-length c = search needs
-
-returns : tie.Need-returns Inv-loop μ-loop
-returns c = search needs
-
-same-length-2 : tie.Need-same-length-2 Inv-loop μ-loop
-same-length-2 c = search needs
-
 returns-2 : tie.Need-returns-2 Inv-loop μ-loop
 returns-2 c = search needs
 
@@ -120,22 +78,22 @@ whole-lines-spec =
     (tie.spec
     Inv-loop
     μ-loop
-    found-requires
+    (λ c κs. search needs)
     loop-holds
-    sub-if1
-    sub-answer-line
-    part-answer-line-start
-    part-answer-line-end
-    sub-answer-line-2
-    part-answer-line-start-2
-    part-answer-line-end-2
+    (λ c. search needs)
+    (λ c. search needs)
+    (λ c. search needs)
+    (λ c. search needs)
+    (λ c. search needs)
+    (λ c. search needs)
+    (λ c. search needs)
     answer-line-requires
     add-n
-    add-start
-    found-requires-2
-    loop-less
+    (λ c. search needs)
+    (λ c κs. search needs)
+    (λ c. search needs)
     loop-again
-    same-length
-    returns
-    same-length-2
+    (λ c. search needs)
+    (λ c. search needs)
+    (λ c. search needs)
     returns-2)

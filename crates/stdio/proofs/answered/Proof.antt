@@ -22,17 +22,8 @@ loop-holds c =
     let s = c .before .before in
     (s .pre .0, turns-none (s .args .program) (s .args .s) (s .args .bytes .now) (s .pre .0), omega arith, refl)
 
-turn-requires : tie.Need-turn-requires Inv-loop μ-loop
-turn-requires c κs = search needs
-
-slice-reshare-prefix-write-all : tie.Need-slice-reshare-prefix-write-all Inv-loop μ-loop
-slice-reshare-prefix-write-all c = search needs
-
 slice-aggregate-write-all : tie.Need-slice-aggregate-write-all Inv-loop μ-loop
 slice-aggregate-write-all c = sym (length-take-le _ _ (c .before .before .before .turn .ensures .within .fits))
-
-write-all-requires : tie.Need-write-all-requires Inv-loop μ-loop
-write-all-requires c κs = search needs
 
 loop-less : tie.Need-loop-less Inv-loop μ-loop
 loop-less c =
@@ -49,9 +40,6 @@ loop-again c =
     let on = turns-on (s .args .program) (s .args .s) (s .args .bytes .now) (l .loop .from) (l .loop .left) (t .turn .result) _ _ (l .loop .inv .1) refl e in
     (e .ready, on .0, e .within .inside, t .turn .kept .1 .1 .1 .1 .0 ∙ l .loop .inv .3)
 
-same-length : tie.Need-same-length Inv-loop μ-loop
-same-length c = search needs
-
 returns : tie.Need-returns Inv-loop μ-loop
 returns c =
     let l = c .before in
@@ -65,11 +53,11 @@ answered-spec =
     Inv-loop
     μ-loop
     loop-holds
-    turn-requires
-    slice-reshare-prefix-write-all
+    (λ c κs. search needs)
+    (λ c. search needs)
     slice-aggregate-write-all
-    write-all-requires
+    (λ c κs. search needs)
     loop-less
     loop-again
-    same-length
+    (λ c. search needs)
     returns)
