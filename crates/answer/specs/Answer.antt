@@ -2,6 +2,7 @@
 use Prim.Native.Nat.{ℕ}
 use mathlib.Core.Path.{_≡_}
 use mathlib.Core.List.{List}
+use Rattle.refusals.specs.Refusals.{badLine as badNumber}
 use Rattle.bridge.specs.State.{Lawful}
 use Rattle.bridge.specs.declared.Bridge.{Bridge}
 use Rattle.bridge.specs.declared.Done.{Done}
@@ -17,7 +18,7 @@ says b t = record { next = b; text = t }
 
 -- a line that has not the form of one
 abbrev pub badText : List ℕ
-badText = line1 14
+badText = line1 badNumber
 
 abbrev pub badLine : Bridge → Answer
 badLine b = says b badText

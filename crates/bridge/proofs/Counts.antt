@@ -22,13 +22,13 @@ use Rattle.port.specs.Send.{sendingNo}
 use Rattle.port.specs.declared.Setting.{Setting}
 use Rattle.port.specs.declared.Port.{Port}
 use Rattle.table.specs.Table.{each, portAt, mostPorts, relinkedPort}
-use Rattle.table.specs.Refusals.{bit, portNo, sendNo, ownNo, maskBeyond}
+use Rattle.table.specs.Arguments.{bit, portRefusal, sendRefusal, ownClockRefusal, maskBeyond}
 use Rattle.table.specs.Fits.{setupFits}
 use Rattle.bridge.specs.State.{withLinks, answers, linked}
 use Rattle.bridge.specs.Setup.{setupOf}
 use Rattle.bridge.specs.Links.{linksOf}
 use Rattle.bridge.specs.Own.{ownClockOf}
-use Rattle.bridge.specs.Receive.{readBy, heardOf, receiveOf}
+use Rattle.bridge.specs.Receive.{readBy, receiveFieldsOf, receiveOf}
 use Rattle.bridge.specs.Age.{ageOf}
 use Rattle.bridge.specs.Send.{composedOf, usedOf, sendOf, sendBytes}
 use Rattle.bridge.specs.declared.Bridge.{Bridge}
@@ -44,18 +44,18 @@ use Rattle.bridge.proofs.Line.{sent-frame-count}
 
 -- a call that may change the state, with its arguments; a send's output by its length
 pub data Call : Type 0 where
-  linking : ℕ → Call
-  telling : ℕ → ℕ → ℕ → ℕ → Call
-  receiving : ℕ → List ℕ → ℕ → Call
-  ageing : ℕ → Call
-  sending : ℕ → ℕ → ℕ → Call
+  links : ℕ → Call
+  own-clock : ℕ → ℕ → ℕ → ℕ → Call
+  receive : ℕ → List ℕ → ℕ → Call
+  age : ℕ → Call
+  send : ℕ → ℕ → ℕ → Call
 
 abbrev pub after : Bridge → Call → Bridge
-after b (linking mask) = linksOf b mask .next
-after b (telling count seconds fraction at) = ownClockOf b count seconds fraction at .next
-after b (receiving port frame arrival) = receiveOf b port frame arrival .next
-after b (ageing at) = ageOf b at .next
-after b (sending port t room) = sendOf b port t room .next
+after b (links mask) = linksOf b mask .next
+after b (own-clock count seconds fraction at) = ownClockOf b count seconds fraction at .next
+after b (receive port frame arrival) = receiveOf b port frame arrival .next
+after b (age at) = ageOf b at .next
+after b (send port t room) = sendOf b port t room .next
 
 unfoldable pub run : Bridge → List Call → Bridge
 run b [] = b
@@ -64,11 +64,11 @@ run b (c ∷ cs) = run (after b c) cs
 -- how many sends of the port at index i used a frameCount since its link came up: none once its link goes down, one more with
 -- each send that is refused by its number alone no more
 abbrev pub usedBy : ℕ → Bridge → Call → ℕ → ℕ
-usedBy i b (linking mask) n = cond (maskBeyond (b .n) mask) n (cond (eqb (bit (b .links) i) 1 && eqb (bit mask i) 0) 0 n)
-usedBy i b (telling count seconds fraction at) n = n
-usedBy i b (receiving port frame arrival) n = n
-usedBy i b (ageing at) n = n
-usedBy i b (sending port t room) n = cond (eqb (sendNo (b .n) (b .links) port t room) 0) (cond (eqb (port - 1) i) (n + 1) n) n
+usedBy i b (links mask) n = cond (maskBeyond (b .n) mask) n (cond (eqb (bit (b .links) i) 1 && eqb (bit mask i) 0) 0 n)
+usedBy i b (own-clock count seconds fraction at) n = n
+usedBy i b (receive port frame arrival) n = n
+usedBy i b (age at) n = n
+usedBy i b (send port t room) n = cond (eqb (sendRefusal (b .n) (b .links) port t room) 0) (cond (eqb (port - 1) i) (n + 1) n) n
 
 unfoldable pub used : ℕ → Bridge → List Call → ℕ → ℕ
 used i b [] n = n
@@ -96,9 +96,9 @@ countAt b i = portAt (b .ports) i .next
 
 -- what holds of the state after a call
 module _ (b : Bridge) (i n : ℕ) (room : i < length (b .ports)) (e : countAt b i ≡ n % 256) where
-  linking-count : (mask : ℕ) → countAt (after b (linking mask)) i ≡ usedBy i b (linking mask) n % 256
+  links-count : (mask : ℕ) → countAt (after b (links mask)) i ≡ usedBy i b (links mask) n % 256
   unfolding linksOf relinkedPort
-  linking-count mask = go (maskBeyond (b .n) mask)
+  links-count mask = go (maskBeyond (b .n) mask)
     where
       down : (s : Bool) → cond s emptyPort (portAt (b .ports) i) .next ≡ cond s 0 n % 256
       down true = refl
@@ -114,29 +114,29 @@ module _ (b : Bridge) (i n : ℕ) (room : i < length (b .ports)) (e : countAt b 
       go true = e
       go false = ap (λ (p : Port). p .next) changed ∙ down (eqb (bit (b .links) i) 1 && eqb (bit mask i) 0)
 
-  telling-count : (count seconds fraction at : ℕ) → countAt (ownClockOf b count seconds fraction at .next) i ≡ n % 256
+  own-clock-count : (count seconds fraction at : ℕ) → countAt (ownClockOf b count seconds fraction at .next) i ≡ n % 256
   unfolding ownClockOf
-  telling-count count seconds fraction at =
-      if-when (λ (d : Done). countAt (d .next) i ≡ n % 256) (eqb (ownNo (b .capable) seconds fraction at) 0) (λ _. e) (λ _. e)
+  own-clock-count count seconds fraction at =
+      if-when (λ (d : Done). countAt (d .next) i ≡ n % 256) (eqb (ownClockRefusal (b .capable) seconds fraction at) 0) (λ _. e) (λ _. e)
 
-  receiving-count : (port : ℕ) (frame : List ℕ) (arrival : ℕ) → countAt (receiveOf b port frame arrival .next) i ≡ n % 256
-  unfolding receiveOf heardOf
-  receiving-count port frame arrival =
-      if-when (λ (d : Done). countAt (d .next) i ≡ n % 256) (eqb (portNo (b .n) (b .links) port arrival) 0) (λ _. by (readOf frame)) (λ _. e)
+  receive-count : (port : ℕ) (frame : List ℕ) (arrival : ℕ) → countAt (receiveOf b port frame arrival .next) i ≡ n % 256
+  unfolding receiveOf receiveFieldsOf
+  receive-count port frame arrival =
+      if-when (λ (d : Done). countAt (d .next) i ≡ n % 256) (eqb (portRefusal (b .n) (b .links) port arrival) 0) (λ _. by (readOf frame)) (λ _. e)
     where
       by : (r : Reading) → countAt (readBy b (port - 1) r (record { 0 = arrival }) .next) i ≡ n % 256
       by (Readings.Refused k) = e
       by (Readings.Frame f) = replaced (b .ports) (port - 1) _ (received-count _ _ f _ (portAt (b .ports) (port - 1))) i ∙ e
 
-  ageing-count : (at : ℕ) → countAt (ageOf b at .next) i ≡ n % 256
+  age-count : (at : ℕ) → countAt (ageOf b at .next) i ≡ n % 256
   unfolding ageOf
-  ageing-count at =
+  age-count at =
       if-when (λ (d : Done). countAt (d .next) i ≡ n % 256) (leb circle at) (λ _. e)
       (λ _. each-count (λ _. agedPort (record { 0 = at }) (b .timeout)) (λ _ p. aged-count (record { 0 = at }) (b .timeout) p) 0 (b .ports) i ∙ e)
 
-  sending-count : (port t room : ℕ) → countAt (after b (sending port t room)) i ≡ usedBy i b (sending port t room) n % 256
+  send-count : (port t room : ℕ) → countAt (after b (send port t room)) i ≡ usedBy i b (send port t room) n % 256
   unfolding sendOf usedOf
-  sending-count port t space = go (eqb (sendNo (b .n) (b .links) port t space) 0)
+  send-count port t space = go (eqb (sendRefusal (b .n) (b .links) port t space) 0)
     where
       by : (s : Bool) → eqb (port - 1) i ≡ s → countAt (usedOf b (port - 1)) i ≡ cond s (n + 1) n % 256
       by true q =
@@ -147,35 +147,35 @@ module _ (b : Bridge) (i n : ℕ) (room : i < length (b .ports)) (e : countAt b 
       by false q = ap (λ (p : Port). p .next) (getD-set-other (b .ports) (port - 1) i (usedPort (portAt (b .ports) (port - 1))) emptyPort (λ z. eqb-false _ _ q (sym z))) ∙ e
 
       go : (r : Bool)
-          → countAt (cond r (answers (sendingNo (composedOf b (port - 1) (record { 0 = t }))) (usedOf b (port - 1))) (answers (sendNo (b .n) (b .links) port t space) b) .next) i
+          → countAt (cond r (answers (sendingNo (composedOf b (port - 1) (record { 0 = t }))) (usedOf b (port - 1))) (answers (sendRefusal (b .n) (b .links) port t space) b) .next) i
           ≡ cond r (cond (eqb (port - 1) i) (n + 1) n) n % 256
       go true = by (eqb (port - 1) i) refl
       go false = e
 
   after-count : (c : Call) → countAt (after b c) i ≡ usedBy i b c n % 256
-  after-count (linking mask) = linking-count mask
-  after-count (telling count seconds fraction at) = telling-count count seconds fraction at
-  after-count (receiving port frame arrival) = receiving-count port frame arrival
-  after-count (ageing at) = ageing-count at
-  after-count (sending port t room) = sending-count port t room
+  after-count (links mask) = links-count mask
+  after-count (own-clock count seconds fraction at) = own-clock-count count seconds fraction at
+  after-count (receive port frame arrival) = receive-count port frame arrival
+  after-count (age at) = age-count at
+  after-count (send port t room) = send-count port t room
 
 -- no call changes how many records there are
 after-length : (b : Bridge) (c : Call) → length (after b c .ports) ≡ length (b .ports)
-unfolding linksOf ownClockOf receiveOf heardOf ageOf sendOf usedOf
-after-length b (linking mask) =
+unfolding linksOf ownClockOf receiveOf receiveFieldsOf ageOf sendOf usedOf
+after-length b (links mask) =
     if-when (λ (d : Linked). length (d .next .ports) ≡ length (b .ports)) (maskBeyond (b .n) mask) (λ _. refl) (λ _. each-length (relinkedPort (b .links) mask) 0 (b .ports))
-after-length b (telling count seconds fraction at) =
-    if-when (λ (d : Done). length (d .next .ports) ≡ length (b .ports)) (eqb (ownNo (b .capable) seconds fraction at) 0) (λ _. refl) (λ _. refl)
-after-length b (receiving port frame arrival) =
-    if-when (λ (d : Done). length (d .next .ports) ≡ length (b .ports)) (eqb (portNo (b .n) (b .links) port arrival) 0) (λ _. by (readOf frame)) (λ _. refl)
+after-length b (own-clock count seconds fraction at) =
+    if-when (λ (d : Done). length (d .next .ports) ≡ length (b .ports)) (eqb (ownClockRefusal (b .capable) seconds fraction at) 0) (λ _. refl) (λ _. refl)
+after-length b (receive port frame arrival) =
+    if-when (λ (d : Done). length (d .next .ports) ≡ length (b .ports)) (eqb (portRefusal (b .n) (b .links) port arrival) 0) (λ _. by (readOf frame)) (λ _. refl)
   where
     by : (r : Reading) → length (readBy b (port - 1) r (record { 0 = arrival }) .next .ports) ≡ length (b .ports)
     by (Readings.Refused k) = refl
     by (Readings.Frame f) = length-set (b .ports) _ _
-after-length b (ageing at) =
+after-length b (age at) =
     if-when (λ (d : Done). length (d .next .ports) ≡ length (b .ports)) (leb circle at) (λ _. refl) (λ _. each-length _ 0 (b .ports))
-after-length b (sending port t room) =
-    if-when (λ (d : Done). length (d .next .ports) ≡ length (b .ports)) (eqb (sendNo (b .n) (b .links) port t room) 0) (λ _. length-set (b .ports) _ _) (λ _. refl)
+after-length b (send port t room) =
+    if-when (λ (d : Done). length (d .next .ports) ≡ length (b .ports)) (eqb (sendRefusal (b .n) (b .links) port t room) 0) (λ _. length-set (b .ports) _ _) (λ _. refl)
 
 -- ---- from Setup on
 

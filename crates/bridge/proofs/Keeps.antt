@@ -14,7 +14,7 @@ use Rattle.relay.specs.Sent.{longestElapsed}
 use Rattle.choice.specs.declared.Precedence.{Precedence}
 use Rattle.frame.specs.Frame.{frameLength}
 use Rattle.frame.specs.Read.{readOf}
-use Rattle.frame.specs.Write.{unwritten}
+use Rattle.frame.specs.Write.{writeRefusal}
 use Rattle.frame.specs.declared.Fields.{Fields}
 use Rattle.frame.specs.declared.Mac.{Mac}
 use Rattle.frame.specs.declared.Reading.{Reading}
@@ -25,13 +25,13 @@ use Rattle.port.specs.declared.Port.{Port}
 use Rattle.port.specs.declared.Setting.{Setting}
 use Rattle.port.specs.declared.Sending.the-variants as Sendings
 use Rattle.table.specs.Table.{each, portAt, mostPorts, relinkedPort}
-use Rattle.table.specs.Refusals.{bit, portNo, sendNo, ownNo, maskBeyond}
+use Rattle.table.specs.Arguments.{bit, portRefusal, sendRefusal, ownClockRefusal, maskBeyond}
 use Rattle.table.specs.Fits.{leastTimeout, greatestTimeout, setupFits}
 use Rattle.bridge.specs.State.{Lawful, withPorts, withPort}
 use Rattle.bridge.specs.Setup.{freshOf, setupOf}
 use Rattle.bridge.specs.Links.{linksOf}
 use Rattle.bridge.specs.Own.{ownClockOf}
-use Rattle.bridge.specs.Receive.{heardOf, readBy, receiveOf}
+use Rattle.bridge.specs.Receive.{receiveFieldsOf, readBy, receiveOf}
 use Rattle.bridge.specs.Age.{ageOf}
 use Rattle.bridge.specs.Send.{composedOf, usedOf, sendOf}
 use Rattle.bridge.specs.declared.Bridge.{Bridge}
@@ -40,7 +40,7 @@ use Rattle.bridge.specs.declared.Linked.{Linked}
 use Rattle.numbers.proofs.Places.{Bytes}
 use Rattle.numbers.proofs.Branches.{if-when}
 use Rattle.times.proofs.TestLaws.{both-hold}
-use Rattle.port.proofs.PortLaws.{empty-lawful, used-lawful, aged-lawful, received-lawful, told-lawful, read-in-range, sending-written}
+use Rattle.port.proofs.PortLaws.{empty-lawful, used-lawful, aged-lawful, received-lawful, own-reading-lawful, read-in-range, sending-written}
 use Rattle.table.proofs.Walk.{each-length, each-all, set-all}
 use Rattle.table.proofs.CheckLaws.{port-ready, own-ready}
 
@@ -93,7 +93,7 @@ fresh-lawful n mac own capable timeout back settings hn hb hs = record {
   ports-most = hn;
   links-most = pow-pos n;
   back-small = hb;
-  clock-lawful = record { last = tt; samples = tt };
+  clock-lawful = record { preceding = tt; samples = tt };
   ports-lawful = empties mostPorts;
 }
 
@@ -133,7 +133,7 @@ links-lawful b mask h =
 pub own-lawful : (b : Bridge) (count seconds fraction at : ℕ) → Lawful b → Lawful (ownClockOf b count seconds fraction at .next)
 unfolding ownClockOf
 own-lawful b count seconds fraction at h =
-    if-when Next (eqb (ownNo (b .capable) seconds fraction at) 0)
+    if-when Next (eqb (ownClockRefusal (b .capable) seconds fraction at) 0)
     (λ e.
     let r = own-ready (b .capable) seconds fraction at (eqb-true _ _ e) in
     record {
@@ -142,19 +142,19 @@ own-lawful b count seconds fraction at h =
       ports-most = h .ports-most;
       links-most = h .links-most;
       back-small = h .back-small;
-      clock-lawful = told-lawful count (record { 0 = seconds; 1 = fraction }) (record { 0 = at }) (b .clock) (r .time) (record { seconds = r .whole; fraction = r .part }) (h .clock-lawful);
+      clock-lawful = own-reading-lawful count (record { 0 = seconds; 1 = fraction }) (record { 0 = at }) (b .clock) (r .time) (record { seconds = r .whole; fraction = r .part }) (h .clock-lawful);
       ports-lawful = h .ports-lawful;
     })
     (λ _. h)
 
-heard-lawful : (b : Bridge) (i : ℕ) (f : Fields) (at : LocalTime) → Lawful b → at .0 < circle → FieldsInRange f → Lawful (heardOf b i f at .next)
-unfolding heardOf
+heard-lawful : (b : Bridge) (i : ℕ) (f : Fields) (at : LocalTime) → Lawful b → at .0 < circle → FieldsInRange f → Lawful (receiveFieldsOf b i f at .next)
+unfolding receiveFieldsOf
 heard-lawful b i f at h t r = port-kept b i _ h (received-lawful _ _ f at _ t r (h .ports-lawful i))
 
 pub receive-lawful : (b : Bridge) (port : ℕ) (frame : List ℕ) (arrival : ℕ) → Bytes frame → Lawful b → Lawful (receiveOf b port frame arrival .next)
 unfolding receiveOf
 receive-lawful b port frame arrival bytes h =
-    if-when Next (eqb (portNo (b .n) (b .links) port arrival) 0)
+    if-when Next (eqb (portRefusal (b .n) (b .links) port arrival) 0)
     (λ e. by (readOf frame) refl (port-ready (b .n) (b .links) port arrival (eqb-true _ _ e) .time))
     (λ _. h)
   where
@@ -175,10 +175,10 @@ usedOf-lawful b i h = port-kept b i _ h (used-lawful _ (h .ports-lawful i))
 pub send-lawful : (b : Bridge) (port t room : ℕ) → Lawful b → Lawful (sendOf b port t room .next)
 unfolding sendOf
 send-lawful b port t room h =
-    if-when Next (eqb (sendNo (b .n) (b .links) port t room) 0) (λ _. usedOf-lawful b (port - 1) h) (λ _. h)
+    if-when Next (eqb (sendRefusal (b .n) (b .links) port t room) 0) (λ _. usedOf-lawful b (port - 1) h) (λ _. h)
 
 -- what a send composes is what Write takes
 pub composed-written : (b : Bridge) (i : ℕ) (t : LocalTime) (room : ℕ) → t .0 < circle → Lawful b → frameLength ≤ room
-    → (f : Fields) → composedOf b i t ≡ Sendings.Frame f → unwritten f room ≡ 0
+    → (f : Fields) → composedOf b i t ≡ Sendings.Frame f → writeRefusal f room ≡ 0
 unfolding composedOf
 composed-written b i t room ht h r f e = sending-written _ _ _ _ t (portAt (b .ports) i) room f ht (h .ports-lawful i) r e

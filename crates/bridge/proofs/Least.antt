@@ -7,59 +7,59 @@ use native.Mathlib.Nat.{le-trans, le-refl, le-of-lt}
 use borrow.Author.Tests.{ltb-true, ltb-false}
 use lib.Dec.{ltb}
 use Rattle.choice.specs.Choose.{rankOf, ownCandidate, betterOf}
-use Rattle.choice.specs.declared.Choice.{Choice}
-use Rattle.choice.specs.declared.Choice.the-variants.{Nothing, Clock}
+use Rattle.choice.specs.declared.Candidate.{Candidate}
+use Rattle.choice.specs.declared.Candidate.the-variants.{Nothing, Clock}
 use Rattle.table.specs.Table.{candidatesFrom, bestOf}
 use Rattle.bridge.specs.Chosen.{chosenOf}
 use Rattle.bridge.specs.declared.Bridge.{Bridge}
 use Rattle.numbers.proofs.Branches.{if-when}
 
 -- own clock first, then the ports
-abbrev pub candidates : Bridge → List Choice
+abbrev pub candidates : Bridge → List Candidate
 candidates b = ownCandidate (b .capable) (b .own) ∷ candidatesFrom 1 (b .ports)
 
 -- x is no worse than y: y is no candidate, or both are and x has no greater rank
-abbrev pub NoWorse : Choice → Choice → Type 0
+abbrev pub NoWorse : Candidate → Candidate → Type 0
 NoWorse x Nothing = Unit {0}
 NoWorse Nothing (Clock q k j) = ⊥
 NoWorse (Clock p h i) (Clock q k j) = rankOf p h i ≤ rankOf q k j
 
 -- ---- the better of two
 
-better-either : (a b : Choice) → (betterOf a b ≡ a) ⊎ (betterOf a b ≡ b)
+better-either : (a b : Candidate) → (betterOf a b ≡ a) ⊎ (betterOf a b ≡ b)
 unfolding betterOf
 better-either Nothing b = inr refl
 better-either (Clock p h i) Nothing = inl refl
 better-either (Clock p h i) (Clock q k j) =
-    if-when (λ (x : Choice). (x ≡ Clock p h i) ⊎ (x ≡ Clock q k j)) (ltb (rankOf q k j) (rankOf p h i)) (λ _. inr refl) (λ _. inl refl)
+    if-when (λ (x : Candidate). (x ≡ Clock p h i) ⊎ (x ≡ Clock q k j)) (ltb (rankOf q k j) (rankOf p h i)) (λ _. inr refl) (λ _. inl refl)
 
-no-worse-refl : (a : Choice) → NoWorse a a
+no-worse-refl : (a : Candidate) → NoWorse a a
 no-worse-refl Nothing = tt
 no-worse-refl (Clock p h i) = le-refl (rankOf p h i)
 
-no-worse-trans : (a b c : Choice) → NoWorse a b → NoWorse b c → NoWorse a c
+no-worse-trans : (a b c : Candidate) → NoWorse a b → NoWorse b c → NoWorse a c
 no-worse-trans a b Nothing x y = tt
 no-worse-trans a Nothing (Clock r l k) x y = absurd y
 no-worse-trans Nothing (Clock q k j) (Clock r l m) x y = absurd x
 no-worse-trans (Clock p h i) (Clock q k j) (Clock r l m) x y = le-trans x y
 
-better-first : (a b : Choice) → NoWorse (betterOf a b) a
+better-first : (a b : Candidate) → NoWorse (betterOf a b) a
 unfolding betterOf
 better-first Nothing b = tt
 better-first (Clock p h i) Nothing = le-refl (rankOf p h i)
 better-first (Clock p h i) (Clock q k j) =
-    if-when (λ (x : Choice). NoWorse x (Clock p h i)) (ltb (rankOf q k j) (rankOf p h i)) (λ e. le-of-lt (ltb-true _ _ e)) (λ _. le-refl (rankOf p h i))
+    if-when (λ (x : Candidate). NoWorse x (Clock p h i)) (ltb (rankOf q k j) (rankOf p h i)) (λ e. le-of-lt (ltb-true _ _ e)) (λ _. le-refl (rankOf p h i))
 
-better-second : (a b : Choice) → NoWorse (betterOf a b) b
+better-second : (a b : Candidate) → NoWorse (betterOf a b) b
 unfolding betterOf
 better-second Nothing b = no-worse-refl b
 better-second (Clock p h i) Nothing = tt
 better-second (Clock p h i) (Clock q k j) =
-    if-when (λ (x : Choice). NoWorse x (Clock q k j)) (ltb (rankOf q k j) (rankOf p h i)) (λ _. le-refl (rankOf q k j)) (λ e. ltb-false _ _ e)
+    if-when (λ (x : Candidate). NoWorse x (Clock q k j)) (ltb (rankOf q k j) (rankOf p h i)) (λ _. le-refl (rankOf q k j)) (λ e. ltb-false _ _ e)
 
 -- ---- the best of many
 
-best-member : (a : Choice) (l : List Choice) → List·Memᴰ (bestOf a l) (a ∷ l)
+best-member : (a : Candidate) (l : List Candidate) → List·Memᴰ (bestOf a l) (a ∷ l)
 unfolding bestOf
 best-member a [] = List·Memᴰ·head refl
 best-member a (c ∷ cs) =
@@ -68,12 +68,12 @@ best-member a (c ∷ cs) =
     (λ m. List·Memᴰ·tail (List·Memᴰ·tail m))
     (List·Memᴰ·cases-cons (best-member (betterOf a c) cs))
 
-best-first : (a : Choice) (l : List Choice) → NoWorse (bestOf a l) a
+best-first : (a : Candidate) (l : List Candidate) → NoWorse (bestOf a l) a
 unfolding bestOf
 best-first a [] = no-worse-refl a
 best-first a (c ∷ cs) = no-worse-trans (bestOf (betterOf a c) cs) (betterOf a c) a (best-first (betterOf a c) cs) (better-first a c)
 
-best-least : (a : Choice) (l : List Choice) (x : Choice) → List·Memᴰ x (a ∷ l) → NoWorse (bestOf a l) x
+best-least : (a : Candidate) (l : List Candidate) (x : Candidate) → List·Memᴰ x (a ∷ l) → NoWorse (bestOf a l) x
 unfolding bestOf
 best-least a [] x m = ⊎-elim (λ e. subst (NoWorse a) (sym e) (no-worse-refl a)) (λ n. absurd (List·Memᴰ·not-nil n)) (List·Memᴰ·cases-cons m)
 best-least a (c ∷ cs) x m =
@@ -94,17 +94,17 @@ unfolding chosenOf
 chosen-member b = best-member (ownCandidate (b .capable) (b .own)) (candidatesFrom 1 (b .ports))
 
 -- no candidate has a lesser rank
-pub chosen-least : (b : Bridge) (x : Choice) → List·Memᴰ x (candidates b) → NoWorse (chosenOf b) x
+pub chosen-least : (b : Bridge) (x : Candidate) → List·Memᴰ x (candidates b) → NoWorse (chosenOf b) x
 unfolding chosenOf
 chosen-least b x m = best-least (ownCandidate (b .capable) (b .own)) (candidatesFrom 1 (b .ports)) x m
 
 -- it is none only if every candidate is none; where every candidate is none, it is one of them
-pub chosen-none : (b : Bridge) → chosenOf b ≡ Nothing → (x : Choice) → List·Memᴰ x (candidates b) → x ≡ Nothing
-chosen-none b e x m = go x (subst (λ (y : Choice). NoWorse y x) e (chosen-least b x m))
+pub chosen-none : (b : Bridge) → chosenOf b ≡ Nothing → (x : Candidate) → List·Memᴰ x (candidates b) → x ≡ Nothing
+chosen-none b e x m = go x (subst (λ (y : Candidate). NoWorse y x) e (chosen-least b x m))
   where
-    go : (x : Choice) → NoWorse Nothing x → x ≡ Nothing
+    go : (x : Candidate) → NoWorse Nothing x → x ≡ Nothing
     go Nothing w = refl
     go (Clock p h i) w = absurd w
 
-pub none-chosen : (b : Bridge) → ((x : Choice) → List·Memᴰ x (candidates b) → x ≡ Nothing) → chosenOf b ≡ Nothing
+pub none-chosen : (b : Bridge) → ((x : Candidate) → List·Memᴰ x (candidates b) → x ≡ Nothing) → chosenOf b ≡ Nothing
 none-chosen b f = f (chosenOf b) (chosen-member b)

@@ -21,7 +21,7 @@ use Rattle.frame.specs.declared.Fields.{Fields}
 use Rattle.port.specs.Send.{sendingNo}
 use Rattle.port.specs.declared.Sending.{Sending}
 use Rattle.table.specs.Table.{portAt}
-use Rattle.table.specs.Refusals.{sendNo}
+use Rattle.table.specs.Arguments.{sendRefusal}
 use Rattle.bridge.specs.State.{Lawful, answers}
 use Rattle.bridge.specs.Chosen.{chosenOf}
 use Rattle.bridge.specs.Send.{chosenSamples, composedOf, usedOf, sendOf, filledBy, sendBytes}
@@ -55,9 +55,9 @@ pub record Wrote (b : Bridge) (port t : ℕ) (out : List ℕ) : Type 0 where
 
 pub wrote : (b : Bridge) (port t : ℕ) (out : List ℕ) → sendOf b port t (length out) .answer ≡ 0 → Wrote b port t out
 unfolding sendOf sendBytes composedOf
-wrote b port t out = go (eqb (sendNo (b .n) (b .links) port t (length out)) 0) refl
+wrote b port t out = go (eqb (sendRefusal (b .n) (b .links) port t (length out)) 0) refl
   where
-    frame : (r : Bool) → eqb (sendNo (b .n) (b .links) port t (length out)) 0 ≡ r → r ≡ true → sendingNo (composedOf b (port - 1) (record { 0 = t })) ≡ 0 → Wrote b port t out
+    frame : (r : Bool) → eqb (sendRefusal (b .n) (b .links) port t (length out)) 0 ≡ r → r ≡ true → sendingNo (composedOf b (port - 1) (record { 0 = t })) ≡ 0 → Wrote b port t out
     frame r q y z =
         let s = sending-read-off (chosenOf b) (chosenSamples b) (b .mac) (b .back) (record { 0 = t }) (portAt (b .ports) (port - 1)) z in
         record {
@@ -69,8 +69,8 @@ wrote b port t out = go (eqb (sendNo (b .n) (b .links) port t (length out)) 0) r
           read = s .3;
         }
 
-    go : (r : Bool) → eqb (sendNo (b .n) (b .links) port t (length out)) 0 ≡ r
-        → cond r (answers (sendingNo (composedOf b (port - 1) (record { 0 = t }))) (usedOf b (port - 1))) (answers (sendNo (b .n) (b .links) port t (length out)) b) .answer ≡ 0
+    go : (r : Bool) → eqb (sendRefusal (b .n) (b .links) port t (length out)) 0 ≡ r
+        → cond r (answers (sendingNo (composedOf b (port - 1) (record { 0 = t }))) (usedOf b (port - 1))) (answers (sendRefusal (b .n) (b .links) port t (length out)) b) .answer ≡ 0
         → Wrote b port t out
     go true q z = frame true q refl z
     go false q z = absurd (eqb-false _ _ q z)

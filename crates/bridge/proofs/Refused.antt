@@ -15,17 +15,17 @@ use Rattle.frame.specs.declared.Reading.{Reading}
 use Rattle.frame.specs.declared.Reading.the-variants as Readings
 use Rattle.port.specs.Receive.{notedPort}
 use Rattle.port.specs.Send.{sendingNo}
-use Rattle.port.specs.declared.Last.the-variants.{Was}
+use Rattle.port.specs.declared.Preceding.the-variants.{Was}
 use Rattle.port.specs.declared.Setting.{Setting}
 use Rattle.port.specs.declared.Sending.{Sending}
 use Rattle.table.specs.Table.{portAt}
-use Rattle.table.specs.Refusals.{portNo, sendNo, ownNo, maskBeyond}
+use Rattle.table.specs.Arguments.{portRefusal, sendRefusal, ownClockRefusal, maskBeyond}
 use Rattle.table.specs.Fits.{setupFits}
 use Rattle.bridge.specs.State.{withPort, withClock, answers}
 use Rattle.bridge.specs.Setup.{noBridge, setupOf}
 use Rattle.bridge.specs.Links.{linksOf}
 use Rattle.bridge.specs.Own.{ownClockOf}
-use Rattle.bridge.specs.Receive.{readBy, heardOf, receiveOf}
+use Rattle.bridge.specs.Receive.{readBy, receiveFieldsOf, receiveOf}
 use Rattle.bridge.specs.Age.{ageOf}
 use Rattle.bridge.specs.Send.{composedOf, usedOf, sendOf, filledBy, sendBytes}
 use Rattle.bridge.specs.declared.Bridge.{Bridge}
@@ -33,7 +33,7 @@ use Rattle.bridge.specs.declared.Done.{Done}
 use Rattle.bridge.specs.declared.Linked.{Linked}
 use Rattle.bridge.specs.declared.LinkCount.the-variants.{Refused}
 use Rattle.numbers.proofs.Branches.{if-when}
-use Rattle.port.proofs.PortLaws.{received-refused, told-refused, NoFrame, sending-refused}
+use Rattle.port.proofs.PortLaws.{received-refused, own-reading-refused, NoFrame, sending-refused}
 use Rattle.table.proofs.CheckLaws.{port-most, send-most}
 
 -- setup, 1: what stands for no state
@@ -58,11 +58,11 @@ age-keeps b at = if-when (λ (d : Done). (d .answer ≡ 0 → ⊥) → d .next �
 -- own clock, 2 and 10: nothing; 8: frameCount and now
 pub record OwnKeeps (b : Bridge) (count at : ℕ) (d : Done) : Type 0 where
   pub early : (d .answer ≡ 0 → ⊥) → (d .answer ≡ 8 → ⊥) → d .next ≡ b
-  pub late : d .answer ≡ 8 → d .next ≡ withClock b (record { last = Was count (record { 0 = at }); samples = b .clock .samples })
+  pub late : d .answer ≡ 8 → d .next ≡ withClock b (record { preceding = Was count (record { 0 = at }); samples = b .clock .samples })
 
 -- the tests over numbers alone never give 8
-own-number : (capable : Bool) (seconds fraction at : ℕ) → ownNo capable seconds fraction at ≡ 8 → ⊥
-unfolding ownNo
+own-number : (capable : Bool) (seconds fraction at : ℕ) → ownClockRefusal capable seconds fraction at ≡ 8 → ⊥
+unfolding ownClockRefusal
 own-number capable seconds fraction at = by (ltb seconds second) (ltb fraction second) (ltb at circle) capable
   where
     by : (a b c d : Bool) → unless a 2 (unless b 2 (unless c 2 (unless d 10 0))) ≡ 8 → ⊥
@@ -75,9 +75,9 @@ own-number capable seconds fraction at = by (ltb seconds second) (ltb fraction s
 pub own-keeps : (b : Bridge) (count seconds fraction at : ℕ) → OwnKeeps b count at (ownClockOf b count seconds fraction at)
 unfolding ownClockOf
 own-keeps b count seconds fraction at =
-    if-when (OwnKeeps b count at) (eqb (ownNo (b .capable) seconds fraction at) 0)
+    if-when (OwnKeeps b count at) (eqb (ownClockRefusal (b .capable) seconds fraction at) 0)
     (λ _.
-    let t = told-refused count (record { 0 = seconds; 1 = fraction }) (record { 0 = at }) (b .clock) in
+    let t = own-reading-refused count (record { 0 = seconds; 1 = fraction }) (record { 0 = at }) (b .clock) in
     record { early = λ z n. absurd (n (t z .number)); late = λ e. ap (withClock b) (t (λ z. omega arith) .stored) })
     (λ _. record { early = λ _ _. refl; late = λ e. absurd (own-number (b .capable) seconds fraction at e) })
 
@@ -88,9 +88,9 @@ pub record ReceiveKeeps (b : Bridge) (port : ℕ) (frame : List ℕ) (arrival : 
       → d .next ≡ withPort b (port - 1) (notedPort (f .count) (record { 0 = arrival }) (portAt (b .ports) (port - 1)))
 
 pub receive-keeps : (b : Bridge) (port : ℕ) (frame : List ℕ) (arrival : ℕ) → ReceiveKeeps b port frame arrival (receiveOf b port frame arrival)
-unfolding receiveOf heardOf
+unfolding receiveOf receiveFieldsOf
 receive-keeps b port frame arrival =
-    if-when (ReceiveKeeps b port frame arrival) (eqb (portNo (b .n) (b .links) port arrival) 0)
+    if-when (ReceiveKeeps b port frame arrival) (eqb (portRefusal (b .n) (b .links) port arrival) 0)
     (λ _. by (readOf frame) refl)
     (λ _. record { early = λ _ _. refl; late = λ f e l. absurd (omega (arith, port-most (b .n) (b .links) port arrival)) })
   where
@@ -120,11 +120,11 @@ composed-keeps b port t out s n = record {
 
 pub send-keeps : (b : Bridge) (port t : ℕ) (out : List ℕ) → SendKeeps b port t out (sendOf b port t (length out)) (sendBytes b port t out)
 unfolding sendOf sendBytes composedOf
-send-keeps b port t out = go (eqb (sendNo (b .n) (b .links) port t (length out)) 0)
+send-keeps b port t out = go (eqb (sendRefusal (b .n) (b .links) port t (length out)) 0)
   where
     go : (r : Bool)
         → SendKeeps b port t out
-        (cond r (answers (sendingNo (composedOf b (port - 1) (record { 0 = t }))) (usedOf b (port - 1))) (answers (sendNo (b .n) (b .links) port t (length out)) b))
+        (cond r (answers (sendingNo (composedOf b (port - 1) (record { 0 = t }))) (usedOf b (port - 1))) (answers (sendRefusal (b .n) (b .links) port t (length out)) b))
         (cond r (filledBy (composedOf b (port - 1) (record { 0 = t })) out) out)
     go true = composed-keeps b port t out _ (sending-refused _ _ _ _ _ _)
     go false = record { early = λ _ _. refl; late = λ l. absurd (omega (arith, send-most (b .n) (b .links) port t (length out))); output = λ _. refl }

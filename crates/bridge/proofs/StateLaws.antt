@@ -14,25 +14,25 @@ use Rattle.relay.specs.Drift.{driftOf}
 use Rattle.choice.specs.declared.Precedence.{Precedence}
 use Rattle.frame.specs.Frame.{frameLength}
 use Rattle.frame.specs.Read.{readOf}
-use Rattle.frame.specs.Write.{bytesOf, unwritten, writtenAs, writtenOf}
+use Rattle.frame.specs.Write.{bytesOf, writeRefusal, writtenAs, writtenOf}
 use Rattle.frame.specs.declared.Fields.{Fields}
 use Rattle.frame.specs.declared.Mac.{Mac}
 use Rattle.frame.specs.declared.Reading.{Reading}
 use Rattle.port.specs.Record.{agedPort}
-use Rattle.port.specs.Own.{toldOf}
+use Rattle.port.specs.Own.{ownReadingOf}
 use Rattle.port.specs.Send.{sendingNo, deliveredNo, deliveredBytes}
 use Rattle.port.specs.declared.Port.{Port}
 use Rattle.port.specs.declared.Setting.{Setting}
-use Rattle.port.specs.declared.Told.{Told}
+use Rattle.port.specs.declared.OwnReading.{OwnReading}
 use Rattle.port.specs.declared.Sending.{Sending}
 use Rattle.port.specs.declared.Sending.the-variants as Sendings
 use Rattle.table.specs.Table.{each, samplesAt, relinkedPort, numberOf}
-use Rattle.table.specs.Refusals.{portNo, sendNo, ownNo, maskBeyond}
+use Rattle.table.specs.Arguments.{portRefusal, sendRefusal, ownClockRefusal, maskBeyond}
 use Rattle.table.specs.Fits.{setupFits}
 use Rattle.bridge.specs.State.{withPorts, withLinks, answers, linked}
 use Rattle.bridge.specs.Setup.{freshOf, noBridge, setupOf}
 use Rattle.bridge.specs.Links.{linksOf}
-use Rattle.bridge.specs.Own.{toldAs, ownClockOf}
+use Rattle.bridge.specs.Own.{ownReadingAs, ownClockOf}
 use Rattle.bridge.specs.Receive.{readBy, receiveOf}
 use Rattle.bridge.specs.Age.{ageOf}
 use Rattle.bridge.specs.Send.{composedOf, usedOf, sendOf, filledBy, sendBytes}
@@ -95,19 +95,19 @@ module _ (b : Bridge) (mask : ℕ) where
 
 -- ---- own clock
 
-module _ (b : Bridge) (count seconds fraction at k : ℕ) (e : k ≡ ownNo (b .capable) seconds fraction at) where
+module _ (b : Bridge) (count seconds fraction at k : ℕ) (e : k ≡ ownClockRefusal (b .capable) seconds fraction at) where
   pub own-refused : (k ≡ 0 → ⊥) → answers k b ≡ ownClockOf b count seconds fraction at
   unfolding ownClockOf
   own-refused n = refuses b _ k _ e n
 
-  pub own-done : (told : Told) → k ≡ 0 → told ≡ toldOf count (record { 0 = seconds; 1 = fraction }) (record { 0 = at }) (b .clock)
-      → toldAs b told ≡ ownClockOf b count seconds fraction at
+  pub own-done : (reading : OwnReading) → k ≡ 0 → reading ≡ ownReadingOf count (record { 0 = seconds; 1 = fraction }) (record { 0 = at }) (b .clock)
+      → ownReadingAs b reading ≡ ownClockOf b count seconds fraction at
   unfolding ownClockOf
-  own-done told z t = ap (toldAs b) t ∙ goes-on _ k e _ _ z
+  own-done reading z t = ap (ownReadingAs b) t ∙ goes-on _ k e _ _ z
 
 -- ---- receive
 
-module _ (b : Bridge) (port : ℕ) (frame : List ℕ) (arrival k : ℕ) (e : k ≡ portNo (b .n) (b .links) port arrival) where
+module _ (b : Bridge) (port : ℕ) (frame : List ℕ) (arrival k : ℕ) (e : k ≡ portRefusal (b .n) (b .links) port arrival) where
   pub receive-refused : (k ≡ 0 → ⊥) → answers k b ≡ receiveOf b port frame arrival
   unfolding receiveOf
   receive-refused n = refuses b _ k _ e n
@@ -118,7 +118,7 @@ module _ (b : Bridge) (port : ℕ) (frame : List ℕ) (arrival k : ℕ) (e : k �
 
 -- ---- send
 
-module _ (b : Bridge) (port t : ℕ) (out : List ℕ) (k : ℕ) (e : k ≡ sendNo (b .n) (b .links) port t (length out)) where
+module _ (b : Bridge) (port t : ℕ) (out : List ℕ) (k : ℕ) (e : k ≡ sendRefusal (b .n) (b .links) port t (length out)) where
   pub send-refused : (k ≡ 0 → ⊥) → answers k b ≡ sendOf b port t (length out)
   unfolding sendOf
   send-refused n = refuses b _ k _ e n
@@ -137,15 +137,15 @@ module _ (b : Bridge) (port t : ℕ) (out : List ℕ) (k : ℕ) (e : k ≡ sendN
 
 -- a frame that Write takes is delivered as it is
 module _ (out : List ℕ) where
-  written-is : (f : Fields) → unwritten f (length out) ≡ 0 → writtenOf f out ≡ bytesOf f (drop frameLength out)
+  written-is : (f : Fields) → writeRefusal f (length out) ≡ 0 → writtenOf f out ≡ bytesOf f (drop frameLength out)
   unfolding writtenOf
   written-is f z = ap (λ (n : ℕ). writtenAs n f out) z
 
-  pub delivered-answer : (s : Sending) → ((f : Fields) → s ≡ Sendings.Frame f → unwritten f (length out) ≡ 0) → deliveredNo s (length out) ≡ sendingNo s
+  pub delivered-answer : (s : Sending) → ((f : Fields) → s ≡ Sendings.Frame f → writeRefusal f (length out) ≡ 0) → deliveredNo s (length out) ≡ sendingNo s
   delivered-answer (Sendings.Refused k) g = refl
   delivered-answer (Sendings.Frame f) g = g f refl
 
-  pub delivered-bytes : (s : Sending) → ((f : Fields) → s ≡ Sendings.Frame f → unwritten f (length out) ≡ 0) → deliveredBytes s out ≡ filledBy s out
+  pub delivered-bytes : (s : Sending) → ((f : Fields) → s ≡ Sendings.Frame f → writeRefusal f (length out) ≡ 0) → deliveredBytes s out ≡ filledBy s out
   delivered-bytes (Sendings.Refused k) g = refl
   delivered-bytes (Sendings.Frame f) g = written-is f (g f refl)
 

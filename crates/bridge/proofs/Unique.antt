@@ -7,10 +7,10 @@ use lib.ListN.{length}
 use denote.Ref.{RefT}
 use Rattle.relay.specs.declared.Drift.{Drift}
 use Rattle.choice.specs.declared.Precedence.{Precedence}
-use Rattle.choice.specs.declared.Choice.{Choice}
+use Rattle.choice.specs.declared.Candidate.{Candidate}
 use Rattle.frame.specs.Read.{readOf}
-use Rattle.frame.specs.Write.{unwritten, writtenOf}
-use Rattle.frame.specs.Better.{lies, betterOf}
+use Rattle.frame.specs.Write.{writeRefusal, writtenOf}
+use Rattle.frame.specs.Better.{lies, betterPartOf}
 use Rattle.frame.specs.declared.Fields.{Fields}
 use Rattle.frame.specs.declared.Mac.{Mac}
 use Rattle.frame.specs.declared.Reading.{Reading}
@@ -35,12 +35,12 @@ pub read-one : (s : List ℕ) (x y : Reading) → x ≡ readOf s → y ≡ readO
 read-one s x y p q = one p q
 
 -- the answer, and every byte of the output
-pub write-one : (f : Fields) (out left left' : List ℕ) (k k' : ℕ) → (k ≡ unwritten f (length out)) × (left ≡ writtenOf f out)
-    → (k' ≡ unwritten f (length out)) × (left' ≡ writtenOf f out) → (k ≡ k') × (left ≡ left')
+pub write-one : (f : Fields) (out left left' : List ℕ) (k k' : ℕ) → (k ≡ writeRefusal f (length out)) × (left ≡ writtenOf f out)
+    → (k' ≡ writeRefusal f (length out)) × (left' ≡ writtenOf f out) → (k ≡ k') × (left ≡ left')
 write-one f out left left' k k' p q = (one (p .0) (q .0), one (p .1) (q .1))
 
 -- where the part lies, and its bytes
-pub better-one : (a b x y : RefT (List ℕ)) → lies x ≡ betterOf a b → lies y ≡ betterOf a b → lies x ≡ lies y
+pub better-one : (a b x y : RefT (List ℕ)) → lies x ≡ betterPartOf a b → lies y ≡ betterPartOf a b → lies x ≡ lies y
 better-one a b x y p q = one p q
 
 pub setup-one : (n : ℕ) (mac : Mac) (own : Precedence) (capable : Bool) (timeout back : ℕ) (settings : List Setting) (x y : Done)
@@ -61,7 +61,7 @@ receive-one b port frame arrival x y p q = one p q
 pub age-one : (b : Bridge) (at : ℕ) (x y : Done) → x ≡ ageOf b at → y ≡ ageOf b at → x ≡ y
 age-one b at x y p q = one p q
 
-pub chosen-one : (b : Bridge) (x y : Choice) → x ≡ chosenOf b → y ≡ chosenOf b → x ≡ y
+pub chosen-one : (b : Bridge) (x y : Candidate) → x ≡ chosenOf b → y ≡ chosenOf b → x ≡ y
 chosen-one b x y p q = one p q
 
 -- the answer, the next state, and every byte of the output

@@ -2,6 +2,7 @@
 use mathlib.Core.Bool.{cond}
 use Prim.Native.Nat.{ℕ}
 use lib.Dec.{leb}
+use Rattle.refusals.specs.Refusals.{done, outOfRange}
 use Rattle.times.specs.Times.{circle}
 use Rattle.port.specs.Record.{agedPort}
 use Rattle.table.specs.Table.{each}
@@ -12,4 +13,4 @@ use Rattle.bridge.specs.declared.Done.{Done}
 -- 2 for a local time out of range; else every port ages, and the own clock does not
 unfoldable pub ageOf : Bridge → ℕ → Done
 ageOf b at =
-    cond (leb circle at) (answers 2 b) (answers 0 (withPorts b (each (λ _. agedPort (record { 0 = at }) (b .timeout)) 0 (b .ports))))
+    cond (leb circle at) (answers outOfRange b) (answers done (withPorts b (each (λ _. agedPort (record { 0 = at }) (b .timeout)) 0 (b .ports))))

@@ -1,8 +1,8 @@
 -- Chosen.
-use Rattle.choice.specs.declared.Choice.{Choice}
+use Rattle.choice.specs.declared.Candidate.{Candidate}
 use Rattle.table.specs.Table.{choiceOf}
 use Rattle.bridge.specs.declared.Bridge.{Bridge}
 
 -- the best clock of the whole state, or none
-unfoldable pub chosenOf : Bridge → Choice
+unfoldable pub chosenOf : Bridge → Candidate
 chosenOf b = choiceOf (b .capable) (b .own) (b .ports)

@@ -2,8 +2,9 @@
 use mathlib.Core.Bool.{cond}
 use Prim.Native.Nat.{ℕ}
 use lib.Count.{ones}
+use Rattle.refusals.specs.Refusals.{done, outOfRange}
 use Rattle.table.specs.Table.{each, relinkedPort}
-use Rattle.table.specs.Refusals.{maskBeyond}
+use Rattle.table.specs.Arguments.{maskBeyond}
 use Rattle.bridge.specs.State.{withLinks, linked}
 use Rattle.bridge.specs.declared.Bridge.{Bridge}
 use Rattle.bridge.specs.declared.Linked.{Linked}
@@ -17,8 +18,8 @@ linksOf b mask =
 
 -- the answer's number and value
 abbrev pub linkNo : LinkCount → ℕ
-linkNo Refused = 2
-linkNo (Up n) = 0
+linkNo Refused = outOfRange
+linkNo (Up n) = done
 
 abbrev pub linkCount : LinkCount → ℕ
 linkCount Refused = 0

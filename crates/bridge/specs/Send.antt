@@ -13,7 +13,7 @@ use Rattle.port.specs.Send.{sendingOf, sendingNo}
 use Rattle.port.specs.declared.Sending.{Sending}
 use Rattle.port.specs.declared.Sending.the-variants.{Refused, Frame}
 use Rattle.table.specs.Table.{portAt, samplesOfChoice}
-use Rattle.table.specs.Refusals.{sendNo}
+use Rattle.table.specs.Arguments.{sendRefusal}
 use Rattle.bridge.specs.State.{withPort, answers}
 use Rattle.bridge.specs.Chosen.{chosenOf}
 use Rattle.bridge.specs.declared.Bridge.{Bridge}
@@ -34,9 +34,9 @@ usedOf b i = withPort b i (usedPort (portAt (b .ports) i))
 -- 2, 3 and 4 first, which store nothing
 unfoldable pub sendOf : Bridge → ℕ → ℕ → ℕ → Done
 sendOf b port t room =
-    cond (eqb (sendNo (b .n) (b .links) port t room) 0)
+    cond (eqb (sendRefusal (b .n) (b .links) port t room) 0)
     (answers (sendingNo (composedOf b (port - 1) (record { 0 = t }))) (usedOf b (port - 1)))
-    (answers (sendNo (b .n) (b .links) port t room) b)
+    (answers (sendRefusal (b .n) (b .links) port t room) b)
 
 -- the frame over the first 64 bytes of the output; every refusal leaves it as it was
 abbrev pub filledBy : Sending → List ℕ → List ℕ
@@ -45,4 +45,4 @@ filledBy (Frame f) out = bytesOf f (drop frameLength out)
 
 unfoldable pub sendBytes : Bridge → ℕ → ℕ → List ℕ → List ℕ
 sendBytes b port t out =
-    cond (eqb (sendNo (b .n) (b .links) port t (length out)) 0) (filledBy (composedOf b (port - 1) (record { 0 = t })) out) out
+    cond (eqb (sendRefusal (b .n) (b .links) port t (length out)) 0) (filledBy (composedOf b (port - 1) (record { 0 = t })) out) out

@@ -3,6 +3,7 @@ use mathlib.Core.Bool.{Bool, false, cond}
 use mathlib.Core.List.{List}
 use Prim.Native.Nat.{ℕ, _^_}
 use lib.ListN.{replicate}
+use Rattle.refusals.specs.Refusals.{done, badSetup}
 use Rattle.choice.specs.declared.Precedence.{Precedence}
 use Rattle.frame.specs.declared.Mac.{Mac}
 use Rattle.port.specs.Record.{emptyPort, emptyClock}
@@ -47,4 +48,4 @@ noBridge = freshOf 0 noMac noPrecedence false 0 0 (replicate mostPorts measuredS
 
 unfoldable pub setupOf : ℕ → Mac → Precedence → Bool → ℕ → ℕ → List Setting → Done
 setupOf n mac own capable timeout back settings =
-    cond (setupFits n timeout back settings) (answers 0 (freshOf n mac own capable timeout back settings)) (answers 1 noBridge)
+    cond (setupFits n timeout back settings) (answers done (freshOf n mac own capable timeout back settings)) (answers badSetup noBridge)

@@ -7,35 +7,29 @@ ghost use Rattle.bridge.specs.State.{Lawful};
 ghost use Rattle.bridge.specs.Setup.{freshOf, setupOf};
 ghost use Rattle.bridge.specs.Links.{linksOf};
 ghost use Rattle.bridge.specs.Own.{ownClockOf};
-ghost use Rattle.bridge.specs.Receive.{heardOf, receiveOf};
+ghost use Rattle.bridge.specs.Receive.{receiveFieldsOf, receiveOf};
 ghost use Rattle.bridge.specs.Age.{ageOf};
 ghost use Rattle.bridge.specs.Chosen.{chosenOf};
 ghost use Rattle.bridge.specs.Send.{composedOf, usedOf, sendOf, sendBytes};
 ghost use Rattle.bridge.specs.Drift.{driftAt};
-use choice::Choice;
+use choice::Candidate;
 use choice::Precedence;
 use choice::candidates;
 use frame::Fields;
 use frame::Mac;
 use frame::Reading;
-use frame::decoding;
+use frame::read;
 use port::OwnClock;
 use port::Port;
 use port::Sending;
 use port::Setting;
-use port::ageing;
-use port::composing;
-use port::hearing;
-use port::telling;
+use port::record;
 use relay::Drift;
 use relay::drifting;
-use table::checks;
+use table::arguments;
 use table::records;
 use times::GrandTime;
 use times::LocalTime;
-
-// The refusals that this crate gives by itself.
-const BAD_SETUP: u8 = 1;
 
 // The default timeout, half a second, and the default backTime, 10 ms.
 pub const DEFAULT_TIMEOUT: u64 = 0x80_0000_0000;
@@ -86,8 +80,8 @@ fn fresh(
 ) -> Bridge
     ensures { λ r. ⌜ r ≡ freshOf n mac own capable timeout back settings ⌝ }
 {
-    let clock = ageing::empty_clock();
-    let port = ageing::empty();
+    let clock = record::empty_clock();
+    let port = record::empty();
     Bridge {
         n: n,
         mac: mac,
@@ -115,9 +109,9 @@ pub fn setup(
     ensures { λ r. ⌜ r ≡ setupOf n mac own capable timeout back settings ⌝ }
     ensures { λ r. ⌜ Lawful (r .next) ⌝ }
 {
-    if checks::setup_fits(n, timeout, back, settings) {
+    if arguments::setup_fits(n, timeout, back, settings) {
         return Done {
-            answer: 0,
+            answer: refusals::DONE,
             next: fresh(n, mac, own, capable, timeout, back, settings),
         };
     }
@@ -130,8 +124,8 @@ pub fn setup(
         clock: 0,
     };
     Done {
-        answer: BAD_SETUP,
-        next: fresh(0, nobody, least, false, 0, 0, records::measured()),
+        answer: refusals::BAD_SETUP,
+        next: fresh(0, nobody, least, false, 0, 0, records::measured_settings()),
     }
 }
 
@@ -141,7 +135,7 @@ pub fn links(b: Bridge, mask: u8) -> Linked
     ensures { λ r. ⌜ r ≡ linksOf b mask ⌝ }
     ensures { λ r. ⌜ Lawful (r .next) ⌝ }
 {
-    if checks::beyond(b.n, mask) {
+    if arguments::beyond(b.n, mask) {
         return Linked {
             answer: LinkCount::Refused,
             next: b,
@@ -164,30 +158,35 @@ pub fn own_clock(b: Bridge, count: u8, seconds: u64, fraction: u64, at: u64) -> 
     ensures { λ r. ⌜ r ≡ ownClockOf b count seconds fraction at ⌝ }
     ensures { λ r. ⌜ Lawful (r .next) ⌝ }
 {
-    let refusal = checks::own_no(b.capable, seconds, fraction, at);
-    if refusal != 0 {
+    let refusal = arguments::own_clock_refusal(b.capable, seconds, fraction, at);
+    if refusal != refusals::DONE {
         return Done {
             answer: refusal,
             next: b,
         };
     }
     let clock = b.clock;
-    let told = telling::told(clock, count, GrandTime(seconds, fraction), LocalTime(at));
-    let after = told.clock;
+    let reading = port::own_clock::own_clock(
+        clock,
+        count,
+        GrandTime(seconds, fraction),
+        LocalTime(at),
+    );
+    let after = reading.clock;
     let mut next = b;
     next.clock = after;
     Done {
-        answer: told.answer,
+        answer: reading.answer,
         next: next,
     }
 }
 
 // A frame that was read, on the port at index i.
-fn heard(mut b: Bridge, i: usize, f: Fields, at: LocalTime) -> Done
+fn receive_fields(mut b: Bridge, i: usize, f: Fields, at: LocalTime) -> Done
     requires { ⌜ Lawful b ⌝ }
     requires { ⌜ i < 8 ⌝ }
     requires { ⌜ FieldsInRange f ⌝ }
-    ensures { λ r. ⌜ r ≡ heardOf b i f at ⌝ }
+    ensures { λ r. ⌜ r ≡ receiveFieldsOf b i f at ⌝ }
 {
     let own = b.own;
     let ports = b.ports;
@@ -195,7 +194,7 @@ fn heard(mut b: Bridge, i: usize, f: Fields, at: LocalTime) -> Done
     let port = b.ports[i];
     let setting = b.settings[i];
     let delay = setting.delay;
-    let received = hearing::received(port, delay, hop, f, at);
+    let received = port::receive::receive(port, delay, hop, f, at);
     let after = received.port;
     b.ports[i] = after;
     Done {
@@ -210,19 +209,19 @@ pub fn receive(b: Bridge, port: u8, frame: &[u8], arrival: u64) -> Done
     ensures { λ r. ⌜ r ≡ receiveOf b port (now (frame .entry)) arrival ⌝ }
     ensures { λ r. ⌜ Lawful (r .next) ⌝ }
 {
-    let refusal = checks::port_no(b.n, b.links, port, arrival);
-    if refusal != 0 {
+    let refusal = arguments::port_refusal(b.n, b.links, port, arrival);
+    if refusal != refusals::DONE {
         return Done {
             answer: refusal,
             next: b,
         };
     }
-    match decoding::read(frame) {
+    match read::read(frame) {
         Reading::Refused(unread) => Done {
             answer: unread,
             next: b,
         },
-        Reading::Frame(f) => heard(b, (port - 1) as usize, f, LocalTime(arrival)),
+        Reading::Frame(f) => receive_fields(b, (port - 1) as usize, f, LocalTime(arrival)),
     }
 }
 
@@ -232,9 +231,9 @@ pub fn age(b: Bridge, at: u64) -> Done
     ensures { λ r. ⌜ r ≡ ageOf b at ⌝ }
     ensures { λ r. ⌜ Lawful (r .next) ⌝ }
 {
-    if checks::off_circle(at) {
+    if arguments::off_circle(at) {
         return Done {
-            answer: checks::OUT_OF_RANGE,
+            answer: refusals::OUT_OF_RANGE,
             next: b,
         };
     }
@@ -243,13 +242,13 @@ pub fn age(b: Bridge, at: u64) -> Done
     let mut next = b;
     next.ports = after;
     Done {
-        answer: 0,
+        answer: refusals::DONE,
         next: next,
     }
 }
 
 // Chosen: the best clock, or none.
-pub fn chosen(b: Bridge) -> Choice
+pub fn chosen(b: Bridge) -> Candidate
     requires { ⌜ Lawful b ⌝ }
     ensures { λ r. ⌜ r ≡ chosenOf b ⌝ }
 {
@@ -271,7 +270,7 @@ fn composed(b: Bridge, i: usize, t: LocalTime) -> Sending
     let mac = b.mac;
     let port = b.ports[i];
     let samples = records::samples_of_choice(choice, clock, ports);
-    composing::composed(choice, samples, mac, b.back, t, port)
+    port::send::composed(choice, samples, mac, b.back, t, port)
 }
 
 // The state once the port at index i has used up its next frameCount.
@@ -282,7 +281,7 @@ fn used(b: Bridge, i: usize) -> Bridge
 {
     let port = b.ports[i];
     let mut next = b;
-    next.ports[i] = ageing::used(port);
+    next.ports[i] = record::used(port);
     next
 }
 
@@ -293,15 +292,15 @@ pub fn send(b: Bridge, port: u8, t: u64, out: &mut [u8]) -> Done
     ensures { λ _. ⌜ now (out .exit) ≡ sendBytes b port t (now (out .entry)) ⌝ }
     ensures { λ r. ⌜ Lawful (r .next) ⌝ }
 {
-    let refusal = checks::send_no(b.n, b.links, port, t, out.len());
-    if refusal != 0 {
+    let refusal = arguments::send_refusal(b.n, b.links, port, t, out.len());
+    if refusal != refusals::DONE {
         return Done {
             answer: refusal,
             next: b,
         };
     }
     let i = (port - 1) as usize;
-    let answer = composing::delivered(composed(b, i, LocalTime(t)), out);
+    let answer = port::send::delivered(composed(b, i, LocalTime(t)), out);
     Done {
         answer: answer,
         next: used(b, i),

@@ -7,10 +7,11 @@ use native.Mathlib.Omega.{arith}
 use borrow.Author.Tests.{eqb-true, ne-eqb}
 use lib.Dec.{eqb}
 use lib.ListN.{length}
+use Rattle.refusals.specs.Refusals.{badLine}
 use Rattle.bridge.specs.declared.Bridge.{Bridge}
 use Rattle.bridge.specs.declared.Done.{Done}
 use Rattle.hexline.specs.Digit.{allDigits}
-use Rattle.capture.specs.Capture.{lineDigits, isLine, badLine, toldOf, receivedOf, doneOf, listedOf}
+use Rattle.capture.specs.Capture.{lineDigits, isLine, toldOf, receivedOf, doneOf, listedOf}
 use Rattle.numbers.proofs.Branches.{if-true, if-false}
 
 pub line-length : (s : List ℕ) → isLine s ≡ true → length s ≡ lineDigits

@@ -4,9 +4,10 @@ use mathlib.Core.List.{List}
 use Prim.Native.Nat.{ℕ}
 use lib.Dec.{eqb}
 use lib.ListN.{length, getD, drop, replicate}
+use Rattle.refusals.specs.Refusals.{badLine}
 use Rattle.numbers.specs.Digits.{numberAt}
-use Rattle.choice.specs.declared.Choice.{Choice}
-use Rattle.choice.specs.declared.Choice.the-variants.{Nothing, Clock}
+use Rattle.choice.specs.declared.Candidate.{Candidate}
+use Rattle.choice.specs.declared.Candidate.the-variants.{Nothing, Clock}
 use Rattle.table.specs.Table.{mostPorts}
 use Rattle.table.specs.Fits.{measuredSetting}
 use Rattle.bridge.specs.Setup.{defaultTimeout, defaultBack, noMac, noPrecedence, setupOf}
@@ -38,15 +39,12 @@ lineDigits = 142
 unfoldable pub isLine : List ℕ → Bool
 isLine s = cond (eqb (length s) lineDigits) (allDigits s) false
 
--- the refusal of a text that isn't, and what is printed for a clock that there isn't
-abbrev pub badLine : ℕ
-badLine = 14
-
+-- what is printed for a clock that there isn't
 abbrev pub nothing : ℕ
 nothing = 255
 
 -- an answer with the chosen clock's port and held hop
-abbrev pub toldText : ℕ → Choice → List ℕ
+abbrev pub toldText : ℕ → Candidate → List ℕ
 toldText answer Nothing = threeOf answer nothing nothing
 toldText answer (Clock precedence hop port) = threeOf answer port hop
 

@@ -11,7 +11,7 @@ ghost use Rattle.capture.specs.Capture.{isLine, startOf, toldOf, receive
 use answer::Answered;
 use bridge::Bridge;
 use bridge::Done;
-use choice::Choice;
+use choice::Candidate;
 use choice::Precedence;
 use frame::Mac;
 use hexline::digits;
@@ -21,9 +21,6 @@ use hexline::printing;
 const PORTS: u8 = 2;
 
 const BOTH_LINKED: u8 = 3;
-
-// The refusal of a line that isn't 142 digits.
-const BAD_LINE: u8 = 14;
 
 // What is printed for a clock that there isn't.
 const NOTHING: u8 = 255;
@@ -63,7 +60,7 @@ pub fn start() -> Bridge
         false,
         bridge::DEFAULT_TIMEOUT,
         bridge::DEFAULT_BACK,
-        table::records::measured(),
+        table::records::measured_settings(),
     );
     let down = first.next;
     let linked = bridge::links(down, BOTH_LINKED);
@@ -86,11 +83,11 @@ fn told(b: Bridge, answer: u8, out: &mut [u8]) -> Answered
     ensures { λ r. ⌜ Says (toldOf b answer) r (now (out .entry)) (now (out .exit)) ⌝ }
 {
     match bridge::chosen(b) {
-        Choice::Nothing => Answered {
+        Candidate::Nothing => Answered {
             next: b,
             len: three(out, answer, NOTHING, NOTHING),
         },
-        Choice::Clock(_, hop, port) => Answered {
+        Candidate::Clock(_, hop, port) => Answered {
             next: b,
             len: three(out, answer, port, hop),
         },
@@ -127,7 +124,7 @@ pub fn answer_line(b: Bridge, text: &[u8], out: &mut [u8]) -> Answered
     ensures { λ r. ⌜ Says (listedOf b (now (text .entry))) r (now (out .entry)) (now (out .exit)) ⌝ }
 {
     if !is_line(text) {
-        return told(b, BAD_LINE, out);
+        return told(b, refusals::BAD_LINE, out);
     }
     let done = received(b, text);
     let next = done.next;

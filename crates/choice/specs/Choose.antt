@@ -2,34 +2,34 @@
 use Prim.Native.Nat.{ℕ, _+_, _*_}
 use mathlib.Core.Bool.{Bool, true, false, cond}
 use lib.Dec.{ltb}
-use Rattle.times.specs.Hop.{lastHop}
+use Rattle.choice.specs.Hop.{lastHop}
 use Rattle.choice.specs.Precedence.{keyOf}
 use Rattle.choice.specs.declared.Precedence.{Precedence}
-use Rattle.choice.specs.declared.Heard.{Heard}
-use Rattle.choice.specs.declared.Heard.the-variants.{Silent, Said}
-use Rattle.choice.specs.declared.Choice.{Choice}
-use Rattle.choice.specs.declared.Choice.the-variants.{Nothing, Clock}
+use Rattle.choice.specs.declared.Announcement.{Announcement}
+use Rattle.choice.specs.declared.Announcement.the-variants.{Silent, Announced}
+use Rattle.choice.specs.declared.Candidate.{Candidate}
+use Rattle.choice.specs.declared.Candidate.the-variants.{Nothing, Clock}
 
 -- precedence, then held hop, then port, as one number; less is better
 unfoldable pub rankOf : Precedence → ℕ → ℕ → ℕ
 rankOf precedence hop port = keyOf precedence hop * 256 + port
 
 -- a port with an announcement, and a capable station's own clock, are candidates
-unfoldable pub candidateOf : ℕ → Heard → Choice
+unfoldable pub candidateOf : ℕ → Announcement → Candidate
 candidateOf number Silent = Nothing
-candidateOf number (Said precedence hop when) = Clock precedence hop number
+candidateOf number (Announced precedence hop when) = Clock precedence hop number
 
-unfoldable pub ownCandidate : Bool → Precedence → Choice
+unfoldable pub ownCandidate : Bool → Precedence → Candidate
 ownCandidate true own = Clock own 0 0
 ownCandidate false own = Nothing
 
 -- the better of two candidates; no candidate is worse than any
-unfoldable pub betterOf : Choice → Choice → Choice
+unfoldable pub betterOf : Candidate → Candidate → Candidate
 betterOf Nothing b = b
 betterOf (Clock p h i) Nothing = Clock p h i
 betterOf (Clock p h i) (Clock q k j) = cond (ltb (rankOf q k j) (rankOf p h i)) (Clock q k j) (Clock p h i)
 
 -- H of step 3
-unfoldable pub chosenHop : Choice → ℕ
+unfoldable pub chosenHop : Candidate → ℕ
 chosenHop Nothing = lastHop
 chosenHop (Clock precedence hop port) = hop

@@ -1,2 +1,3 @@
 pub mod Precedence
+pub mod Hop
 pub mod Choose

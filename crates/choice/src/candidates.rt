@@ -2,30 +2,30 @@
 ghost use mathlib.Core.Path.{_≡_};
 ghost use lib.Dec.{ltb};
 ghost use Rattle.choice.specs.Choose.{rankOf, candidateOf, ownCandidate, betterOf, chosenHop};
-use crate::Choice;
-use crate::Heard;
+use crate::Announcement;
+use crate::Candidate;
 use crate::Precedence;
-use crate::ranking;
-use times::hops;
+use crate::hop;
+use crate::order;
 
 // The candidate of the port with this number, by its announcement.
-pub fn candidate(heard: Heard, number: u8) -> Choice
-    ensures { λ r. ⌜ r ≡ candidateOf number heard ⌝ }
+pub fn candidate(announcement: Announcement, number: u8) -> Candidate
+    ensures { λ r. ⌜ r ≡ candidateOf number announcement ⌝ }
 {
-    match heard {
-        Heard::Silent => Choice::Nothing,
-        Heard::Said(precedence, hop, _) => Choice::Clock(precedence, hop, number),
+    match announcement {
+        Announcement::Silent => Candidate::Nothing,
+        Announcement::Announced(precedence, hop, _) => Candidate::Clock(precedence, hop, number),
     }
 }
 
 // The own clock as a candidate, on a station that is capable.
-pub fn own_candidate(capable: bool, own: Precedence) -> Choice
+pub fn own_candidate(capable: bool, own: Precedence) -> Candidate
     ensures { λ r. ⌜ r ≡ ownCandidate capable own ⌝ }
 {
     if capable {
-        Choice::Clock(own, 0, 0)
+        Candidate::Clock(own, 0, 0)
     } else {
-        Choice::Nothing
+        Candidate::Nothing
     }
 }
 
@@ -33,34 +33,34 @@ pub fn own_candidate(capable: bool, own: Precedence) -> Choice
 pub fn outranks(p: Precedence, h: u8, i: u8, q: Precedence, k: u8, j: u8) -> bool
     ensures { λ r. ⌜ r ≡ ltb (rankOf p h i) (rankOf q k j) ⌝ }
 {
-    if ranking::key_precedes(p, h, q, k) {
+    if order::key_precedes(p, h, q, k) {
         return true;
     }
-    if ranking::key_precedes(q, k, p, h) {
+    if order::key_precedes(q, k, p, h) {
         return false;
     }
     i < j
 }
 
 // The better of two candidates.
-pub fn better(a: Choice, b: Choice) -> Choice
+pub fn better(a: Candidate, b: Candidate) -> Candidate
     ensures { λ r. ⌜ r ≡ betterOf a b ⌝ }
 {
     match a {
-        Choice::Nothing => b,
-        Choice::Clock(p, h, i) => match b {
-            Choice::Nothing => a,
-            Choice::Clock(q, k, j) => { if outranks(q, k, j, p, h, i) { b } else { a } }
+        Candidate::Nothing => b,
+        Candidate::Clock(p, h, i) => match b {
+            Candidate::Nothing => a,
+            Candidate::Clock(q, k, j) => { if outranks(q, k, j, p, h, i) { b } else { a } }
         },
     }
 }
 
 // The held hop of the chosen clock, the last one where there is none.
-pub fn chosen_hop(choice: Choice) -> u8
+pub fn chosen_hop(choice: Candidate) -> u8
     ensures { λ r. ⌜ r ≡ chosenHop choice ⌝ }
 {
     match choice {
-        Choice::Nothing => hops::LAST_HOP,
-        Choice::Clock(_, hop, _) => hop,
+        Candidate::Nothing => hop::LAST_HOP,
+        Candidate::Clock(_, hop, _) => hop,
     }
 }

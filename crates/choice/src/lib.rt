@@ -1,6 +1,7 @@
 // How good a clock is, and the choice between clocks.
 pub mod candidates;
-pub mod ranking;
+pub mod hop;
+pub mod order;
 
 use times::LocalTime;
 
@@ -13,14 +14,14 @@ pub struct Precedence {
     pub clock: u64,
 }
 
-// The announcement: precedence, held hop, and when it was heard.
-pub enum Heard {
+// The announcement: precedence, held hop, and when it was announcement.
+pub enum Announcement {
     Silent,
-    Said(Precedence, u8, LocalTime),
+    Announced(Precedence, u8, LocalTime),
 }
 
 // A clock to be chosen, or none: precedence, held hop, and port, 0 for the own clock.
-pub enum Choice {
+pub enum Candidate {
     Nothing,
     Clock(Precedence, u8, u8),
 }

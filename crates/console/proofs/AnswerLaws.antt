@@ -17,11 +17,11 @@ use Rattle.relay.specs.Sent.{rateBetween}
 use Rattle.relay.specs.declared.Drift.{Drift}
 use Rattle.relay.specs.declared.Drift.the-variants.{PartsPerMillion, Refused as noClock}
 use Rattle.choice.specs.declared.Precedence.{Precedence}
-use Rattle.frame.specs.Better.{standingOf, winnerOf, precedenceBytes, lies, pieceBy, betterOf}
+use Rattle.frame.specs.Better.{standingOf, winnerOf, precedenceBytes, lies, pieceBy, betterPartOf}
 use Rattle.frame.specs.declared.Mac.{Mac}
 use Rattle.frame.specs.declared.Fields.{Fields}
 use Rattle.frame.specs.Read.{readOf}
-use Rattle.frame.specs.Write.{unwritten, writtenOf}
+use Rattle.frame.specs.Write.{writeRefusal, writtenOf}
 use Rattle.frame.specs.declared.Reading.{Reading}
 use Rattle.frame.specs.declared.Winner.{Winner}
 use Rattle.frame.specs.declared.Winner.the-variants.{Neither, First, Second}
@@ -107,7 +107,7 @@ piece-bytes Neither a b = refl
 piece-bytes First a b = refl
 piece-bytes Second a b = refl
 
-pub better-bytes : (r a b : RefT (List ℕ)) → lies r ≡ betterOf a b → now r ≡ betterBytes (now a) (now b)
+pub better-bytes : (r a b : RefT (List ℕ)) → lies r ≡ betterPartOf a b → now r ≡ betterBytes (now a) (now b)
 unfolding betterBytes winnerOf
 better-bytes r a b e = ap (λ (x : (ℕ × ℕ) × List ℕ). x .1) e ∙ piece-bytes (winnerOf (standingOf (now a)) (standingOf (now b))) a b
 
@@ -116,7 +116,7 @@ piece-small Neither a b = omega arith
 piece-small First a b = rw length-take (omega arith)
 piece-small Second a b = rw length-take (omega arith)
 
-pub better-short : (r a b : RefT (List ℕ)) → lies r ≡ betterOf a b → length (now r) ≤ precedenceBytes
+pub better-short : (r a b : RefT (List ℕ)) → lies r ≡ betterPartOf a b → length (now r) ≤ precedenceBytes
 unfolding betterBytes winnerOf
 better-short r a b e =
     let k = ap length (better-bytes r a b e) in
@@ -261,7 +261,7 @@ pub write-bad2 : {e0 : Parts} {e1 : Size} {v0 : Fields} → parts v0 ≡ e0 → 
 unfolding writeBy
 write-bad2 p0 p1 = λ i. writeBy (p0 i) (p1 i)
 
-pub write-good : {e0 : Parts} {e1 : Size} {f : Fields} {n k : ℕ} {bytes : List ℕ} → parts f ≡ e0 → size n ≡ e1 → k ≡ unwritten f (length (untouched n)) → bytes ≡ writtenOf f (untouched n)
+pub write-good : {e0 : Parts} {e1 : Size} {f : Fields} {n k : ℕ} {bytes : List ℕ} → parts f ≡ e0 → size n ≡ e1 → k ≡ writeRefusal f (length (untouched n)) → bytes ≡ writtenOf f (untouched n)
     → lineWith k bytes ≡ writeBy e0 e1
 unfolding writeBy
 write-good p0 p1 r q = (λ i. lineWith (r i) (q i)) ∙ (λ i. writeBy (p0 i) (p1 i))

@@ -9,10 +9,10 @@ use lib.Ieee.{toBits, binary64}
 use Rattle.numbers.specs.Digits.{digits}
 use Rattle.relay.specs.declared.Drift.{Drift}
 use Rattle.relay.specs.declared.Drift.the-variants.{NoReading, PartsPerMillion, Refused as noClock}
-use Rattle.choice.specs.declared.Choice.{Choice}
-use Rattle.choice.specs.declared.Choice.the-variants.{Nothing, Clock}
+use Rattle.choice.specs.declared.Candidate.{Candidate}
+use Rattle.choice.specs.declared.Candidate.the-variants.{Nothing, Clock}
 use Rattle.frame.specs.Read.{readOf}
-use Rattle.frame.specs.Write.{unwritten, writtenOf}
+use Rattle.frame.specs.Write.{writeRefusal, writtenOf}
 use Rattle.frame.specs.Better.{standingOf, winnerOf, precedenceStart, precedenceBytes}
 use Rattle.frame.specs.declared.Reading.{Reading}
 use Rattle.frame.specs.declared.Reading.the-variants.{Frame, Refused as unread}
@@ -123,7 +123,7 @@ sendLine b s = sendBy b (octetBy (numberIn (fieldOf s 1))) (numberIn (fieldOf s 
 
 -- ---- the lines that leave the state as it is
 
-abbrev pub chosenText : Choice → List ℕ
+abbrev pub chosenText : Candidate → List ℕ
 chosenText Nothing = line2 255 255
 chosenText (Clock p hop k) = line2 k hop
 
@@ -153,7 +153,7 @@ readLine s = readBy (bytesIn (fieldOf s 1)) (contentOf (fieldOf s 1))
 unfoldable pub writeBy : Parts → Size → List ℕ
 writeBy noParts n = badText
 writeBy (parts f) noSize = badText
-writeBy (parts f) (size n) = lineWith (unwritten f (length (untouched n))) (writtenOf f (untouched n))
+writeBy (parts f) (size n) = lineWith (writeRefusal f (length (untouched n))) (writtenOf f (untouched n))
 
 unfoldable pub writeLine : List ℕ → List ℕ
 writeLine s = writeBy (partsOf s) (lengthBy (numberIn (fieldOf s 11)))

@@ -11,11 +11,11 @@ ghost use Rattle.bridge.specs.Chosen.{chosenOf};
 ghost use Rattle.words.specs.Said.{longest, lineWith, Prints};
 ghost use Rattle.console.specs.Answer.{chosenText, driftLine, readLine, writeLine, betterLine};
 use bridge::Bridge;
-use choice::Choice;
+use choice::Candidate;
 use frame::Reading;
-use frame::choosing;
-use frame::decoding;
-use frame::encoding;
+use frame::better;
+use frame::read;
+use frame::write;
 use relay::Drift;
 use words::Octet;
 use words::Parts;
@@ -39,8 +39,8 @@ pub fn chosen(b: Bridge, out: &mut [u8]) -> usize
     ensures { λ r. ⌜ Prints (chosenText (chosenOf b)) r (now (out .entry)) (now (out .exit)) ⌝ }
 {
     match bridge::chosen(b) {
-        Choice::Nothing => printing::two(out, NOTHING, NOTHING),
-        Choice::Clock(_, hop, port) => printing::two(out, port, hop),
+        Candidate::Nothing => printing::two(out, NOTHING, NOTHING),
+        Candidate::Clock(_, hop, port) => printing::two(out, port, hop),
     }
 }
 
@@ -80,7 +80,7 @@ pub fn read(text: &[u8], out: &mut [u8]) -> usize
     let Size::Is(n) = reading::bytes(text, 1, &mut frame) else {
         return printing::refused(out);
     };
-    match decoding::read(&frame[..n]) {
+    match read::read(&frame[..n]) {
         Reading::Refused(no) => printing::one(out, no),
         Reading::Frame(f) => printing::fields(out, f),
     }
@@ -98,7 +98,7 @@ pub fn write(text: &[u8], out: &mut [u8]) -> usize
         return printing::refused(out);
     };
     let mut frame = [UNTOUCHED; 128];
-    let answer = encoding::write(f, &mut frame[..n]);
+    let answer = write::write(f, &mut frame[..n]);
     printing::with_bytes(out, answer, &frame[..n])
 }
 
@@ -115,5 +115,5 @@ pub fn better(text: &[u8], out: &mut [u8]) -> usize
     let Size::Is(m) = reading::bytes(text, 2, &mut second) else {
         return printing::refused(out);
     };
-    printing::rest(out, 0, choosing::better(&first[..n], &second[..m]))
+    printing::rest(out, 0, better::better(&first[..n], &second[..m]))
 }

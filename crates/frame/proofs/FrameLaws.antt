@@ -9,13 +9,13 @@ use lib.Dec.{ltb, leb, eqb}
 use lib.ListN.{length, drop, getD}
 use borrow.Author.Tests.{eq-eqb, ne-eqb, eqb-true, eqb-false, ltb-true, leb-true, lt-ltb, le-leb}
 use Rattle.numbers.specs.Table.{joined}
-use Rattle.times.specs.Hop.{lastHop}
+use Rattle.choice.specs.Hop.{lastHop}
 use Rattle.times.specs.Times.{second, circle}
 use Rattle.choice.specs.Precedence.{keyOf}
 use Rattle.choice.specs.declared.Precedence.{Precedence}
 use Rattle.frame.specs.Frame.{frameLength, stationAddress, localExperimental, timeSync, firstVersion, widths, valuesOf, fieldsOf}
-use Rattle.frame.specs.Read.{unless, rowsOf, constantsNo, refusalOf, readAs, readOf}
-use Rattle.frame.specs.Write.{unwritten, bytesOf, writtenAs, writtenOf}
+use Rattle.frame.specs.Read.{unless, rowsOf, constantsRefusal, readRefusal, readAs, readOf}
+use Rattle.frame.specs.Write.{writeRefusal, bytesOf, writtenAs, writtenOf}
 use Rattle.frame.specs.Better.{standingBy, standingOf, winnerOf}
 use Rattle.frame.specs.declared.Fields.{Fields}
 use Rattle.frame.specs.declared.Reading.the-variants.{Frame, Refused}
@@ -51,8 +51,8 @@ pub record Accepted (s : List ℕ) : Type 0 where
   pub byte31 : getD (rowsOf s) 17 0 ≡ 0
   pub version : getD (rowsOf s) 9 0 ≡ firstVersion
 
-pub accepted : (s : List ℕ) → refusalOf s ≡ 0 → Accepted s
-unfolding refusalOf
+pub accepted : (s : List ℕ) → readRefusal s ≡ 0 → Accepted s
+unfolding readRefusal
 accepted s e =
     let vs = rowsOf s in
     let a = none (eqb (length s) frameLength) 3 _ e in
@@ -71,29 +71,29 @@ accepted s e =
     }
 
 -- the refusals of a wrong length, and of the rows of a right one
-pub short : (s : List ℕ) → (length s ≡ frameLength → ⊥) → 4 ≡ refusalOf s
-unfolding refusalOf
+pub short : (s : List ℕ) → (length s ≡ frameLength → ⊥) → 4 ≡ readRefusal s
+unfolding readRefusal
 short s h = stopped _ 4 _ (ne-eqb _ _ h)
 
-pub by-rows : (s vs : List ℕ) → length s ≡ frameLength → vs ≡ rowsOf s → constantsNo vs ≡ refusalOf s
-unfolding refusalOf
-by-rows s vs l e = past _ 4 (eq-eqb _ _ l) (ap constantsNo e)
+pub by-rows : (s vs : List ℕ) → length s ≡ frameLength → vs ≡ rowsOf s → constantsRefusal vs ≡ readRefusal s
+unfolding readRefusal
+by-rows s vs l e = past _ 4 (eq-eqb _ _ l) (ap constantsRefusal e)
 
 -- what the refusal k makes of a frame
-pub refused : (k : ℕ) (s : List ℕ) → k ≡ refusalOf s → (k ≡ 0 → ⊥) → Refused k ≡ readOf s
+pub refused : (k : ℕ) (s : List ℕ) → k ≡ readRefusal s → (k ≡ 0 → ⊥) → Refused k ≡ readOf s
 unfolding readOf
 refused zero s e h = absurd (h refl)
 refused (suc k) s e h = ap (λ (n : ℕ). readAs n (rowsOf s)) e
 
-pub framed : (k : ℕ) (s : List ℕ) → k ≡ refusalOf s → k ≡ 0 → Frame (fieldsOf (rowsOf s)) ≡ readOf s
+pub framed : (k : ℕ) (s : List ℕ) → k ≡ readRefusal s → k ≡ 0 → Frame (fieldsOf (rowsOf s)) ≡ readOf s
 unfolding readOf
 framed k s e h = ap (λ (n : ℕ). readAs n (rowsOf s)) (sym h ∙ e)
 
 -- what a frame that is read was
-pub reading : (s : List ℕ) (f : Fields) → readOf s ≡ Frame f → (refusalOf s ≡ 0) × (fieldsOf (rowsOf s) ≡ f)
+pub reading : (s : List ℕ) (f : Fields) → readOf s ≡ Frame f → (readRefusal s ≡ 0) × (fieldsOf (rowsOf s) ≡ f)
 unfolding readOf
-reading s f e = by (refusalOf s) refl where
-  by : (k : ℕ) → refusalOf s ≡ k → (refusalOf s ≡ 0) × (fieldsOf (rowsOf s) ≡ f)
+reading s f e = by (readRefusal s) refl where
+  by : (k : ℕ) → readRefusal s ≡ k → (readRefusal s ≡ 0) × (fieldsOf (rowsOf s) ≡ f)
   by zero r = let q : readAs 0 (rowsOf s) ≡ readOf s = ap (λ (n : ℕ). readAs n (rowsOf s)) (sym r) in (r, (cc))
   by (suc k) r = let q : readAs (suc k) (rowsOf s) ≡ readOf s = ap (λ (n : ℕ). readAs n (rowsOf s)) (sym r) in
       let z : _≡_ {A = ℕ} 0 1 = cc in absurd (omega arith)
@@ -109,8 +109,8 @@ pub record Written (f : Fields) (n : ℕ) : Type 0 where
   pub rx : f .rx .0 < circle
   pub room : frameLength ≤ n
 
-pub in-range : (f : Fields) (n : ℕ) → unwritten f n ≡ 0 → Written f n
-unfolding unwritten
+pub in-range : (f : Fields) (n : ℕ) → writeRefusal f n ≡ 0 → Written f n
+unfolding writeRefusal
 in-range f n e =
     let a = none (ltb (f .grand .0) second) 1 _ e in
     let b = none (ltb (f .grand .1) second) 1 _ (a .1) in
@@ -127,8 +127,8 @@ in-range f n e =
       room = leb-true _ _ (h .0);
     }
 
-pub unrefused : (f : Fields) (n : ℕ) → Written f n → unwritten f n ≡ 0
-unfolding unwritten
+pub unrefused : (f : Fields) (n : ℕ) → Written f n → writeRefusal f n ≡ 0
+unfolding writeRefusal
 unrefused f n w =
     sym
     (past _ 2 (lt-ltb _ _ (w .seconds))
@@ -139,11 +139,11 @@ unrefused f n w =
     (past _ 4 (le-leb _ _ (w .room)) refl))))))
 
 -- what the refusal k makes of the output
-pub filled : (f : Fields) (k : ℕ) (out : List ℕ) → k ≡ unwritten f (length out) → k ≡ 0 → joined widths (valuesOf f) (drop frameLength out) ≡ writtenOf f out
+pub filled : (f : Fields) (k : ℕ) (out : List ℕ) → k ≡ writeRefusal f (length out) → k ≡ 0 → joined widths (valuesOf f) (drop frameLength out) ≡ writtenOf f out
 unfolding bytesOf writtenOf
 filled f k out e h = ap (λ (n : ℕ). writtenAs n f out) (sym h ∙ e)
 
-pub untouched : (f : Fields) (k : ℕ) (out : List ℕ) → k ≡ unwritten f (length out) → (k ≡ 0 → ⊥) → out ≡ writtenOf f out
+pub untouched : (f : Fields) (k : ℕ) (out : List ℕ) → k ≡ writeRefusal f (length out) → (k ≡ 0 → ⊥) → out ≡ writtenOf f out
 unfolding writtenOf
 untouched f zero out e h = absurd (h refl)
 untouched f (suc k) out e h = ap (λ (n : ℕ). writtenAs n f out) e

@@ -13,7 +13,7 @@ use Rattle.times.specs.Times.{units, InRange}
 use Rattle.choice.specs.Precedence.{precedenceOf}
 use Rattle.frame.specs.Frame.{frameLength, widths, valuesOf, fieldsOf}
 use Rattle.frame.specs.Read.{rowsOf, readOf}
-use Rattle.frame.specs.Write.{unwritten, bytesOf, writtenOf}
+use Rattle.frame.specs.Write.{writeRefusal, bytesOf, writtenOf}
 use Rattle.frame.specs.Better.{precedenceStart, precedenceBytes}
 use Rattle.frame.specs.declared.Fields.{Fields}
 use Rattle.frame.specs.declared.Reading.the-variants.{Frame}
@@ -57,13 +57,13 @@ rows-joined s t b a =
 
 -- the fields of an accepted frame are written, and give its bytes
 pub read-written : (s out : List ℕ) (f : Fields) → Bytes s → readOf s ≡ Frame f → frameLength ≤ length out
-    → (unwritten f (length out) ≡ 0) × (writtenOf f out ≡ s ++ drop frameLength out)
+    → (writeRefusal f (length out) ≡ 0) × (writtenOf f out ≡ s ++ drop frameLength out)
 read-written s out f b e r =
     let q = reading s f e in
     let a = accepted s (q .0) in
-    subst (λ (g : Fields). (unwritten g (length out) ≡ 0) × (writtenOf g out ≡ s ++ drop frameLength out)) (q .1)
+    subst (λ (g : Fields). (writeRefusal g (length out) ≡ 0) × (writtenOf g out ≡ s ++ drop frameLength out)) (q .1)
     (let g = fieldsOf (rowsOf s) in
-    let z : unwritten g (length out) ≡ 0 = unrefused g (length out) (rows-written s (length out) b (a .sized) r) in
+    let z : writeRefusal g (length out) ≡ 0 = unrefused g (length out) (rows-written s (length out) b (a .sized) r) in
     (z, sym (filled g 0 out (sym z) refl) ∙ rows-joined s (drop frameLength out) b a))
 
 -- ---- written, then read
@@ -90,14 +90,14 @@ values-held : (f : Fields) (n : ℕ) → Typed f → Written f n → Held widths
 values-held f n t w = omega arith
 
 -- the first 64 bytes of what is written are the rows of the fields
-written-first : (f : Fields) (out : List ℕ) → Held widths (valuesOf f) → unwritten f (length out) ≡ 0
+written-first : (f : Fields) (out : List ℕ) → Held widths (valuesOf f) → writeRefusal f (length out) ≡ 0
     → take frameLength (writtenOf f out) ≡ joined widths (valuesOf f) []
 written-first f out h e =
     ap (take frameLength) (sym (filled f 0 out (sym e) refl) ∙ joined-append widths (valuesOf f) (drop frameLength out))
     ∙ take-at (joined widths (valuesOf f) []) (drop frameLength out) frameLength (length-joined widths (valuesOf f) [] h)
 
 -- fields that are written are what is read of the first 64 bytes
-pub written-read : (f : Fields) (out : List ℕ) → Typed f → unwritten f (length out) ≡ 0 → readOf (take frameLength (writtenOf f out)) ≡ Frame f
+pub written-read : (f : Fields) (out : List ℕ) → Typed f → writeRefusal f (length out) ≡ 0 → readOf (take frameLength (writtenOf f out)) ≡ Frame f
 written-read f out t e =
     let vs = valuesOf f in
     let h : Held widths vs = values-held f (length out) t (in-range f (length out) e) in

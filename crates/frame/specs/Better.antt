@@ -5,7 +5,7 @@ use mathlib.Core.List.{List}
 use lib.ListN.{take, drop}
 use lib.Dec.{ltb, eqb}
 use denote.Ref.{RefT, ptr, now}
-use Rattle.times.specs.Hop.{lastHop}
+use Rattle.choice.specs.Hop.{lastHop}
 use Rattle.choice.specs.Precedence.{keyOf}
 use Rattle.frame.specs.Read.{readOf}
 use Rattle.frame.specs.declared.Reading.{Reading}
@@ -51,5 +51,5 @@ pieceBy Neither a b = piece a 0 0
 pieceBy First a b = piece a precedenceStart precedenceBytes
 pieceBy Second a b = piece b precedenceStart precedenceBytes
 
-abbrev pub betterOf : RefT (List ℕ) → RefT (List ℕ) → (ℕ × ℕ) × List ℕ
-betterOf a b = pieceBy (winnerOf (standingOf (now a)) (standingOf (now b))) a b
+abbrev pub betterPartOf : RefT (List ℕ) → RefT (List ℕ) → (ℕ × ℕ) × List ℕ
+betterPartOf a b = pieceBy (winnerOf (standingOf (now a)) (standingOf (now b))) a b

@@ -1,5 +1,5 @@
 -- The frame: a table of widths, what stands in each row, and the fields that are read off the rows.
-use Prim.Native.Nat.{ℕ}
+use Prim.Native.Nat.{ℕ, _+_}
 use mathlib.Core.List.{List, [], _∷_}
 use lib.ListN.{getD}
 use Rattle.choice.specs.declared.Precedence.{Precedence}
@@ -35,6 +35,64 @@ widths =
     ∷ 4  -- 23: errorTime
     ∷ []
 
+-- the row of each number; sa has six, a byte each
+abbrev pub daRow : ℕ
+daRow = 0
+
+abbrev pub saRow : ℕ
+saRow = 1
+
+abbrev pub protocolTypeRow : ℕ
+protocolTypeRow = 7
+
+abbrev pub functionRow : ℕ
+functionRow = 8
+
+abbrev pub versionRow : ℕ
+versionRow = 9
+
+abbrev pub priority1Row : ℕ
+priority1Row = 10
+
+abbrev pub sourceRow : ℕ
+sourceRow = 11
+
+abbrev pub varianceRow : ℕ
+varianceRow = 12
+
+abbrev pub priority2Row : ℕ
+priority2Row = 13
+
+abbrev pub clockRow : ℕ
+clockRow = 14
+
+abbrev pub hopRow : ℕ
+hopRow = 15
+
+abbrev pub countRow : ℕ
+countRow = 16
+
+abbrev pub zeroRow : ℕ
+zeroRow = 17
+
+abbrev pub secondsRow : ℕ
+secondsRow = 18
+
+abbrev pub fractionRow : ℕ
+fractionRow = 19
+
+abbrev pub localRow : ℕ
+localRow = 20
+
+abbrev pub txRow : ℕ
+txRow = 21
+
+abbrev pub rxRow : ℕ
+rxRow = 22
+
+abbrev pub errorRow : ℕ
+errorRow = 23
+
 -- what the fields put into each row
 abbrev pub valuesOf : Fields → List ℕ
 valuesOf f =
@@ -50,20 +108,33 @@ valuesOf f =
 
 -- the fields that stand in the rows
 abbrev pub macOf : List ℕ → Mac
-macOf vs = record { 0 = getD vs 1 0; 1 = getD vs 2 0; 2 = getD vs 3 0; 3 = getD vs 4 0; 4 = getD vs 5 0; 5 = getD vs 6 0 }
+macOf vs = record {
+  0 = getD vs saRow 0;
+  1 = getD vs (saRow + 1) 0;
+  2 = getD vs (saRow + 2) 0;
+  3 = getD vs (saRow + 3) 0;
+  4 = getD vs (saRow + 4) 0;
+  5 = getD vs (saRow + 5) 0;
+}
 
 abbrev pub precedenceIn : List ℕ → Precedence
-precedenceIn vs = record { priority1 = getD vs 10 0; source = getD vs 11 0; variance = getD vs 12 0; priority2 = getD vs 13 0; clock = getD vs 14 0 }
+precedenceIn vs = record {
+  priority1 = getD vs priority1Row 0;
+  source = getD vs sourceRow 0;
+  variance = getD vs varianceRow 0;
+  priority2 = getD vs priority2Row 0;
+  clock = getD vs clockRow 0;
+}
 
 abbrev pub fieldsOf : List ℕ → Fields
 fieldsOf vs = record {
   sa = macOf vs;
   precedence = precedenceIn vs;
-  hop = getD vs 15 0;
-  count = getD vs 16 0;
-  grand = record { 0 = getD vs 18 0; 1 = getD vs 19 0 };
-  local = record { 0 = getD vs 20 0 };
-  tx = record { 0 = getD vs 21 0 };
-  rx = record { 0 = getD vs 22 0 };
-  error = record { 0 = getD vs 23 0 };
+  hop = getD vs hopRow 0;
+  count = getD vs countRow 0;
+  grand = record { 0 = getD vs secondsRow 0; 1 = getD vs fractionRow 0 };
+  local = record { 0 = getD vs localRow 0 };
+  tx = record { 0 = getD vs txRow 0 };
+  rx = record { 0 = getD vs rxRow 0 };
+  error = record { 0 = getD vs errorRow 0 };
 }

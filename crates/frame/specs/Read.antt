@@ -4,8 +4,9 @@ use mathlib.Core.Bool.{Bool, true, false}
 use mathlib.Core.List.{List}
 use lib.ListN.{length, getD}
 use lib.Dec.{eqb}
+use Rattle.refusals.specs.Refusals.{done, wrongLength, wrongConstant, wrongVersion}
 use Rattle.numbers.specs.Table.{parted}
-use Rattle.frame.specs.Frame.{frameLength, stationAddress, localExperimental, timeSync, firstVersion, widths, fieldsOf}
+use Rattle.frame.specs.Frame.{frameLength, stationAddress, localExperimental, timeSync, firstVersion, widths, daRow, protocolTypeRow, functionRow, versionRow, zeroRow, fieldsOf}
 use Rattle.frame.specs.declared.Reading.{Reading}
 use Rattle.frame.specs.declared.Reading.the-variants.{Frame, Refused}
 
@@ -19,26 +20,26 @@ abbrev pub rowsOf : List ℕ → List ℕ
 rowsOf s = parted widths 0 s
 
 -- 5 for a wrong da, protocolType, function or byte 31, 6 for a wrong version, or 0
-abbrev pub constantsNo : List ℕ → ℕ
-constantsNo vs =
-    unless (eqb (getD vs 0 0) stationAddress) 5
-    (unless (eqb (getD vs 7 0) localExperimental) 5
-    (unless (eqb (getD vs 8 0) timeSync) 5
-    (unless (eqb (getD vs 17 0) 0) 5
-    (unless (eqb (getD vs 9 0) firstVersion) 6 0))))
+abbrev pub constantsRefusal : List ℕ → ℕ
+constantsRefusal vs =
+    unless (eqb (getD vs daRow 0) stationAddress) wrongConstant
+    (unless (eqb (getD vs protocolTypeRow 0) localExperimental) wrongConstant
+    (unless (eqb (getD vs functionRow 0) timeSync) wrongConstant
+    (unless (eqb (getD vs zeroRow 0) 0) wrongConstant
+    (unless (eqb (getD vs versionRow 0) firstVersion) wrongVersion done))))
 
 -- 4 for a wrong length, then 5 and 6, or 0
-unfoldable pub refusalOf : List ℕ → ℕ
-refusalOf s = unless (eqb (length s) frameLength) 4 (constantsNo (rowsOf s))
+unfoldable pub readRefusal : List ℕ → ℕ
+readRefusal s = unless (eqb (length s) frameLength) wrongLength (constantsRefusal (rowsOf s))
 
 abbrev pub readAs : ℕ → List ℕ → Reading
 readAs zero vs = Frame (fieldsOf vs)
 readAs (suc k) vs = Refused (suc k)
 
 unfoldable pub readOf : List ℕ → Reading
-readOf s = readAs (refusalOf s) (rowsOf s)
+readOf s = readAs (readRefusal s) (rowsOf s)
 
 -- the refusal's number
 abbrev pub readNo : Reading → ℕ
-readNo (Frame f) = 0
+readNo (Frame f) = done
 readNo (Refused k) = k

@@ -3,6 +3,7 @@ use Prim.Native.Nat.{ℕ, zero, suc}
 use mathlib.Core.List.{List}
 use lib.ListN.{length, drop}
 use lib.Dec.{ltb, leb}
+use Rattle.refusals.specs.Refusals.{done, outOfRange, wrongLength}
 use Rattle.times.specs.Times.{second, circle}
 use Rattle.numbers.specs.Table.{joined}
 use Rattle.frame.specs.Frame.{frameLength, widths, valuesOf}
@@ -10,14 +11,14 @@ use Rattle.frame.specs.Read.{unless}
 use Rattle.frame.specs.declared.Fields.{Fields}
 
 -- 2 for a time out of range, 4 for an output that is too short, or 0
-unfoldable pub unwritten : Fields → ℕ → ℕ
-unwritten f room =
-    unless (ltb (f .grand .0) second) 2
-    (unless (ltb (f .grand .1) second) 2
-    (unless (ltb (f .local .0) circle) 2
-    (unless (ltb (f .tx .0) circle) 2
-    (unless (ltb (f .rx .0) circle) 2
-    (unless (leb frameLength room) 4 0)))))
+unfoldable pub writeRefusal : Fields → ℕ → ℕ
+writeRefusal f room =
+    unless (ltb (f .grand .0) second) outOfRange
+    (unless (ltb (f .grand .1) second) outOfRange
+    (unless (ltb (f .local .0) circle) outOfRange
+    (unless (ltb (f .tx .0) circle) outOfRange
+    (unless (ltb (f .rx .0) circle) outOfRange
+    (unless (leb frameLength room) wrongLength done)))))
 
 -- the frame's 64 bytes, and then t
 unfoldable pub bytesOf : Fields → List ℕ → List ℕ
@@ -29,4 +30,4 @@ writtenAs zero f out = bytesOf f (drop frameLength out)
 writtenAs (suc k) f out = out
 
 unfoldable pub writtenOf : Fields → List ℕ → List ℕ
-writtenOf f out = writtenAs (unwritten f (length out)) f out
+writtenOf f out = writtenAs (writeRefusal f (length out)) f out

@@ -1,8 +1,8 @@
 // The timeSync frame of 64 bytes: read, written, and the better of two.
-pub mod choosing;
-pub mod decoding;
-pub mod encoding;
+pub mod better;
 pub mod layout;
+pub mod read;
+pub mod write;
 
 use choice::Precedence;
 use times::ErrorTime;

@@ -18,7 +18,7 @@ pub fn floor_div(z: i64, m: u64) -> i64
 }
 
 // The size of z, whatever its sign.
-pub fn size(z: i64) -> u64
+pub fn abs(z: i64) -> u64
     ensures { λ r. ⌜ r ≡ natAbs z ⌝ }
 {
     if z < 0 { (-1 - z) as u64 + 1 } else { z as u64 }
@@ -47,7 +47,7 @@ pub fn difference(a: u64, b: u64) -> i64
 }
 
 // a + b.
-pub fn sum(a: i64, b: i64) -> i64
+pub fn add(a: i64, b: i64) -> i64
     requires { ⌜ natAbs a + natAbs b < 2 ^ 63 ⌝ }
     ensures { λ r. ⌜ r ≡ a +ℤ b ⌝ }
 {
@@ -55,7 +55,7 @@ pub fn sum(a: i64, b: i64) -> i64
 }
 
 // a - b.
-pub fn less(a: i64, b: i64) -> i64
+pub fn sub(a: i64, b: i64) -> i64
     requires { ⌜ natAbs a + natAbs b < 2 ^ 63 ⌝ }
     ensures { λ r. ⌜ r ≡ a -ℤ b ⌝ }
 {
@@ -63,7 +63,7 @@ pub fn less(a: i64, b: i64) -> i64
 }
 
 // a × b.
-pub fn product(a: i64, b: i64) -> i64
+pub fn mul(a: i64, b: i64) -> i64
     requires { ⌜ natAbs a * natAbs b < 2 ^ 63 ⌝ }
     ensures { λ r. ⌜ r ≡ a *ℤ b ⌝ }
 {

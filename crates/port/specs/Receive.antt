@@ -2,36 +2,37 @@
 use Prim.Native.Nat.{ℕ}
 use mathlib.Core.Bool.{Bool, false, cond}
 use lib.Dec.{eqb}
+use Rattle.refusals.specs.Refusals.{done, lastHopHeard, notNext, delayTooLong}
 use Rattle.times.specs.Times.{earlierBy, nextCount}
-use Rattle.times.specs.Hop.{lastHop, hopOf}
+use Rattle.choice.specs.Hop.{lastHop, hopOf}
 use Rattle.times.specs.declared.LocalTime.{LocalTime}
 use Rattle.samples.specs.Rate.{neighbourRateOf}
 use Rattle.samples.specs.Keep.{keptOf}
 use Rattle.samples.specs.declared.Sample.{Sample}
-use Rattle.samples.specs.declared.Stamps.the-variants.{Set}
+use Rattle.samples.specs.declared.Pair.the-variants.{Set}
 use Rattle.relay.specs.Delay.{linkDelayOf}
 use Rattle.relay.specs.declared.DelaySetting.{DelaySetting}
 use Rattle.relay.specs.declared.Delay.{Delay}
 use Rattle.relay.specs.declared.Delay.the-variants.{Is, TooLong}
 use Rattle.choice.specs.Precedence.{precedenceOf}
 use Rattle.choice.specs.declared.Precedence.{Precedence}
-use Rattle.choice.specs.declared.Heard.{Heard}
-use Rattle.choice.specs.declared.Heard.the-variants.{Silent, Said}
+use Rattle.choice.specs.declared.Announcement.{Announcement}
+use Rattle.choice.specs.declared.Announcement.the-variants.{Silent, Announced}
 use Rattle.frame.specs.declared.Fields.{Fields}
-use Rattle.port.specs.declared.Last.{Last}
-use Rattle.port.specs.declared.Last.the-variants.{Never, Was}
+use Rattle.port.specs.declared.Preceding.{Preceding}
+use Rattle.port.specs.declared.Preceding.the-variants.{Never, Was}
 use Rattle.port.specs.declared.Port.{Port}
 use Rattle.port.specs.declared.Received.{Received}
 
 -- whether the announcement is of the clock with this precedence
-unfoldable pub sameClock : Heard → Precedence → Bool
+unfoldable pub sameClock : Announcement → Precedence → Bool
 sameClock Silent precedence = false
-sameClock (Said held hop when) precedence = eqb (precedenceOf held) (precedenceOf precedence)
+sameClock (Announced held hop when) precedence = eqb (precedenceOf held) (precedenceOf precedence)
 
 -- a refused frame: frameCount and arrival are stored as the next p, and nothing else
 abbrev pub notedPort : ℕ → LocalTime → Port → Port
 notedPort count at port =
-    record { last = Was count at; heard = port .heard; samples = port .samples; pair = port .pair; echo = port .echo; next = port .next }
+    record { preceding = Was count at; announcement = port .announcement; samples = port .samples; pair = port .pair; echo = port .echo; next = port .next }
 
 abbrev pub refusedBy : ℕ → ℕ → LocalTime → Port → Received
 refusedBy k count at port = record { answer = k; port = notedPort count at port }
@@ -43,9 +44,9 @@ sampleOf f p delay = record { grand = f .grand; local = earlierBy p delay; error
 -- steps 4 and 5: what is stored of a frame with this held hop and delay
 abbrev pub takenPort : Fields → ℕ → LocalTime → ℕ → LocalTime → Port → Port
 takenPort f hop p delay at port = record {
-  last = Was (f .count) at;
-  heard = Said (f .precedence) hop at;
-  samples = keptOf (port .samples) (sameClock (port .heard) (f .precedence)) (sampleOf f p delay);
+  preceding = Was (f .count) at;
+  announcement = Announced (f .precedence) hop at;
+  samples = keptOf (port .samples) (sameClock (port .announcement) (f .precedence)) (sampleOf f p delay);
   pair = Set (f .local) p;
   echo = Set (f .local) p;
   next = port .next;
@@ -53,8 +54,8 @@ takenPort f hop p delay at port = record {
 
 -- step 3, and 9 for a delay that is too long
 abbrev pub delayedBy : Delay → ℕ → Fields → LocalTime → LocalTime → Port → Received
-delayedBy TooLong chosen f p at port = refusedBy 9 (f .count) at port
-delayedBy (Is delay) chosen f p at port = record { answer = 0; port = takenPort f (hopOf (f .hop) chosen) p delay at port }
+delayedBy TooLong chosen f p at port = refusedBy delayTooLong (f .count) at port
+delayedBy (Is delay) chosen f p at port = record { answer = done; port = takenPort f (hopOf (f .hop) chosen) p delay at port }
 
 -- steps 1 and 2, for a frame whose preceding one arrived at p
 unfoldable pub followedBy : DelaySetting → ℕ → Fields → LocalTime → LocalTime → Port → Received
@@ -62,12 +63,12 @@ followedBy setting chosen f p at port =
     delayedBy (linkDelayOf setting (neighbourRateOf (port .pair) (f .local) p) (f .local) p (f .tx) (f .rx)) chosen f p at port
 
 -- 8 where the frameCount does not follow on the preceding one, or there is none
-abbrev pub countedBy : Last → DelaySetting → ℕ → Fields → LocalTime → Port → Received
-countedBy Never setting chosen f at port = refusedBy 8 (f .count) at port
+abbrev pub countedBy : Preceding → DelaySetting → ℕ → Fields → LocalTime → Port → Received
+countedBy Never setting chosen f at port = refusedBy notNext (f .count) at port
 countedBy (Was count p) setting chosen f at port =
-    cond (eqb (f .count) (nextCount count)) (followedBy setting chosen f p at port) (refusedBy 8 (f .count) at port)
+    cond (eqb (f .count) (nextCount count)) (followedBy setting chosen f p at port) (refusedBy notNext (f .count) at port)
 
 -- 7 for the last hop, then 8, then 9; `chosen` is the chosen clock's held hop before the call
 unfoldable pub receivedOf : DelaySetting → ℕ → Fields → LocalTime → Port → Received
 receivedOf setting chosen f at port =
-    cond (eqb (f .hop) lastHop) (refusedBy 7 (f .count) at port) (countedBy (port .last) setting chosen f at port)
+    cond (eqb (f .hop) lastHop) (refusedBy lastHopHeard (f .count) at port) (countedBy (port .preceding) setting chosen f at port)

@@ -1,19 +1,20 @@
 -- Send, on one record: the frame for the chosen clock, or why there is none.
 use Prim.Native.Nat.{ℕ}
 use mathlib.Core.List.{List}
+use Rattle.refusals.specs.Refusals.{done, noClock}
 use Rattle.times.specs.declared.LocalTime.{LocalTime}
 use Rattle.times.specs.declared.GrandTime.{GrandTime}
 use Rattle.times.specs.declared.ErrorTime.{ErrorTime}
 use Rattle.samples.specs.declared.Samples.{Samples}
-use Rattle.samples.specs.declared.Stamps.{Stamps}
-use Rattle.samples.specs.declared.Stamps.the-variants.{Unset, Set}
+use Rattle.samples.specs.declared.Pair.{Pair}
+use Rattle.samples.specs.declared.Pair.the-variants.{Unset, Set}
 use Rattle.relay.specs.Sent.{sentOf, sentNo}
 use Rattle.relay.specs.declared.Sent.{Sent}
 use Rattle.relay.specs.declared.Sent.the-variants.{At, Few, Late, Beyond}
 use Rattle.choice.specs.declared.Precedence.{Precedence}
-use Rattle.choice.specs.declared.Choice.{Choice}
-use Rattle.choice.specs.declared.Choice.the-variants.{Nothing, Clock}
-use Rattle.frame.specs.Write.{unwritten, writtenOf}
+use Rattle.choice.specs.declared.Candidate.{Candidate}
+use Rattle.choice.specs.declared.Candidate.the-variants.{Nothing, Clock}
+use Rattle.frame.specs.Write.{writeRefusal, writtenOf}
 use Rattle.frame.specs.declared.Mac.{Mac}
 use Rattle.frame.specs.declared.Fields.{Fields}
 use Rattle.port.specs.declared.Port.{Port}
@@ -21,11 +22,11 @@ use Rattle.port.specs.declared.Sending.{Sending}
 use Rattle.port.specs.declared.Sending.the-variants.{Refused, Frame}
 
 -- the echo's two times, zeros where there is none
-abbrev pub echoTx : Stamps → LocalTime
+abbrev pub echoTx : Pair → LocalTime
 echoTx Unset = record { 0 = 0 }
 echoTx (Set local p) = local
 
-abbrev pub echoRx : Stamps → LocalTime
+abbrev pub echoRx : Pair → LocalTime
 echoRx Unset = record { 0 = 0 }
 echoRx (Set local p) = p
 
@@ -51,19 +52,19 @@ sendingBy Late mac precedence hop t port = Refused (sentNo Late)
 sendingBy Beyond mac precedence hop t port = Refused (sentNo Beyond)
 
 -- 10 where no clock is chosen; else by the samples of the chosen clock
-unfoldable pub sendingOf : Choice → Samples → Mac → ℕ → LocalTime → Port → Sending
-sendingOf Nothing samples mac back t port = Refused 10
+unfoldable pub sendingOf : Candidate → Samples → Mac → ℕ → LocalTime → Port → Sending
+sendingOf Nothing samples mac back t port = Refused noClock
 sendingOf (Clock precedence hop number) samples mac back t port = sendingBy (sentOf samples t back) mac precedence hop t port
 
 -- the answer's number
 abbrev pub sendingNo : Sending → ℕ
 sendingNo (Refused k) = k
-sendingNo (Frame f) = 0
+sendingNo (Frame f) = done
 
 -- the answer and the output's bytes, by Write where there is a frame
 abbrev pub deliveredNo : Sending → ℕ → ℕ
 deliveredNo (Refused k) room = k
-deliveredNo (Frame f) room = unwritten f room
+deliveredNo (Frame f) room = writeRefusal f room
 
 abbrev pub deliveredBytes : Sending → List ℕ → List ℕ
 deliveredBytes (Refused k) out = out

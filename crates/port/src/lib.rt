@@ -1,35 +1,35 @@
 // One port's record and the own clock's, and what each event makes of them.
-pub mod ageing;
-pub mod composing;
-pub mod hearing;
-pub mod telling;
+pub mod own_clock;
+pub mod receive;
+pub mod record;
+pub mod send;
 
-use choice::Heard;
+use choice::Announcement;
 use frame::Fields;
 use relay::DelaySetting;
+use samples::Pair;
 use samples::Samples;
-use samples::Stamps;
 use times::LocalTime;
 
 // The frameCount and the arrival of the preceding frame, the next p.
-pub enum Last {
+pub enum Preceding {
     Never,
     Was(u8, LocalTime),
 }
 
 // All that is stored of a port.
 pub struct Port {
-    pub last: Last,
-    pub heard: Heard,
+    pub preceding: Preceding,
+    pub announcement: Announcement,
     pub samples: Samples,
-    pub pair: Stamps,
-    pub echo: Stamps,
+    pub pair: Pair,
+    pub echo: Pair,
     pub next: u8,
 }
 
 // All that is stored of the station's own clock.
 pub struct OwnClock {
-    pub last: Last,
+    pub preceding: Preceding,
     pub samples: Samples,
 }
 
@@ -45,7 +45,7 @@ pub struct Received {
 }
 
 // What a reading of the own clock is answered with, and its record after it.
-pub struct Told {
+pub struct OwnReading {
     pub answer: u8,
     pub clock: OwnClock,
 }

@@ -10,7 +10,7 @@ use Rattle.times.specs.Times.{sinceOf, units}
 use Rattle.times.specs.declared.LocalTime.{LocalTime}
 use Rattle.times.specs.declared.GrandTime.{GrandTime}
 use Rattle.times.specs.declared.ErrorTime.{ErrorTime}
-use Rattle.samples.specs.Rate.{one, longest, Limits, rateOf, scaledOf}
+use Rattle.samples.specs.Rate.{one, longestSpread, Limits, rateOf, scaledOf}
 use Rattle.samples.specs.Keep.{spreadOf, riseOf, gainedOf, LawfulSamples}
 use Rattle.samples.specs.declared.Sample.{Sample}
 use Rattle.samples.specs.declared.Samples.the-variants.{Two}
@@ -98,7 +98,7 @@ pub correction-le : (a b : Sample) (elapsed back : ℕ) → Limits (gainedOf a b
     → natAbs (scaledOf (rateBetween a b) (reachOf elapsed back)) ≤ units (b .grand)
 correction-le a b elapsed back k he hb =
     let r = rate-small (gainedOf a b) (spreadOf a b) k in
-    let u : natAbs (reachOf elapsed back) ≤ longest = le-of-lt (reach-lt elapsed back he hb) in
+    let u : natAbs (reachOf elapsed back) ≤ longestSpread = le-of-lt (reach-lt elapsed back he hb) in
     omega (
       arith,
       k .low,

@@ -57,7 +57,7 @@ module _ (setting : DelaySetting) (rate : ℤ) (local p tx rx : LocalTime) where
   delay-heard e f =
       rw (e, refuted (eqb (tx .0) 0 && eqb (rx .0) 0) (λ t. let k = both-hold (eqb (tx .0) 0) (eqb (rx .0) 0) t in f (eqb-true _ _ (k .0)) (eqb-true _ _ (k .1))))
 
--- a measured delay is at most the longest
+-- a measured delay is at most the longestSpread
 pub delay-small : (rate : ℤ) (local p tx rx : LocalTime) (n : ℕ) → Is n ≡ linkDelayOf Measured rate local p tx rx → n ≤ longestDelay
 unfolding linkDelayOf
 delay-small rate local p tx rx n e = go (eqb (tx .0) 0 && eqb (rx .0) 0) e

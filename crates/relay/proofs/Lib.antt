@@ -1,5 +1,4 @@
 pub mod DelayLaws
 pub mod SentLaws
 pub mod Bound
-pub mod Edges
 pub mod PpmLaws

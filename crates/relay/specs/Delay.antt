@@ -3,6 +3,7 @@ use mathlib.Core.Bool.{cond, _&&_}
 use Prim.Native.Nat.{ℕ, _^_}
 use lib.Dec.{leb, eqb}
 use lib.IntN.{ℤ, pos, _+ℤ_, _-ℤ_}
+use Rattle.refusals.specs.Refusals.{done, delayTooLong}
 use Rattle.numbers.specs.Whole.{floorDiv, atLeastZero}
 use Rattle.times.specs.Times.{sinceOf}
 use Rattle.times.specs.declared.LocalTime.{LocalTime}
@@ -40,5 +41,5 @@ linkDelayOf Measured rate local p tx rx =
 
 -- the refusal's number
 abbrev pub delayNo : Delay → ℕ
-delayNo (Is n) = 0
-delayNo TooLong = 9
+delayNo (Is n) = done
+delayNo TooLong = delayTooLong

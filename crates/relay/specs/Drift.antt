@@ -4,6 +4,7 @@ use Prim.Native.Nat.{ℕ, _*_}
 use lib.IntN.{ℤ, natAbs}
 use lib.Signed.{nonNeg}
 use lib.Ieee.{Float, binary64, round}
+use Rattle.refusals.specs.Refusals.{done, outOfRange}
 use Rattle.samples.specs.Rate.{one}
 use Rattle.samples.specs.declared.Samples.{Samples}
 use Rattle.samples.specs.declared.Samples.the-variants.{Empty, One, Two}
@@ -26,6 +27,6 @@ driftOf (Two a b) = PartsPerMillion (ppmOf (rateBetween a b))
 
 -- the refusal's number
 abbrev pub driftNo : Drift → ℕ
-driftNo NoReading = 0
-driftNo (PartsPerMillion x) = 0
-driftNo Refused = 2
+driftNo NoReading = done
+driftNo (PartsPerMillion x) = done
+driftNo Refused = outOfRange

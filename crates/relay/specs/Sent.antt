@@ -3,6 +3,7 @@ use mathlib.Core.Bool.{cond}
 use Prim.Native.Nat.{ℕ, _^_}
 use lib.Dec.{ltb}
 use lib.IntN.{ℤ, pos, _+ℤ_, _-ℤ_}
+use Rattle.refusals.specs.Refusals.{done, fewSamples, tooLate, beyondRange}
 use Rattle.numbers.specs.Whole.{atLeastZero}
 use Rattle.times.specs.Times.{sinceOf, units, grandOf, grandEnd}
 use Rattle.times.specs.declared.LocalTime.{LocalTime}
@@ -47,7 +48,7 @@ sentOf (Two a b) t back =
 
 -- the refusal's number
 abbrev pub sentNo : Sent → ℕ
-sentNo (At g e) = 0
-sentNo Few = 11
-sentNo Late = 12
-sentNo Beyond = 13
+sentNo (At g e) = done
+sentNo Few = fewSamples
+sentNo Late = tooLate
+sentNo Beyond = beyondRange

@@ -7,8 +7,8 @@ ghost use Rattle.relay.specs.Delay.{longestTrip, delayOf, measuredOf, li
 use crate::Delay;
 use crate::DelaySetting;
 use numbers::whole;
-use samples::Stamps;
-use samples::rates;
+use samples::Pair;
+use samples::rate;
 use times::LocalTime;
 use times::local;
 
@@ -26,13 +26,13 @@ pub fn half_trip(rate: i64, trip: u64, turn: u64) -> u64
     ensures { λ r. ⌜ r ≡ delayOf rate trip turn ⌝ }
 {
     let there = whole::difference(turn, 0);
-    let here = whole::sum(there, rates::scaled(rate, there));
-    let both = whole::less(whole::difference(trip, 0), here);
+    let here = whole::add(there, rate::scaled(rate, there));
+    let both = whole::sub(whole::difference(trip, 0), here);
     whole::at_least_zero(whole::floor_div(both, WAYS))
 }
 
 // The measured delay, unless a part of it is too long.
-pub fn measured(rate: i64, trip: u64, turn: u64) -> Delay
+pub fn measured_delay(rate: i64, trip: u64, turn: u64) -> Delay
     requires { ⌜ natAbs rate ≤ steepest ⌝ }
     ensures { λ r. ⌜ r ≡ measuredOf rate trip turn ⌝ }
 {
@@ -52,7 +52,7 @@ pub fn measured(rate: i64, trip: u64, turn: u64) -> Delay
 // The link delay by the port's setting, for a frame with these times whose preceding one arrived at p.
 pub fn link_delay(
     setting: DelaySetting,
-    pair: Stamps,
+    pair: Pair,
     local: LocalTime,
     p: LocalTime,
     tx: LocalTime,
@@ -68,8 +68,8 @@ pub fn link_delay(
                     return Delay::Is(0);
                 }
             }
-            measured(
-                rates::neighbour_rate(pair, local, p),
+            measured_delay(
+                rate::neighbour_rate(pair, local, p),
                 local::since(p, tx),
                 local::since(local, rx),
             )

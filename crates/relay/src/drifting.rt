@@ -20,7 +20,7 @@ pub fn parts_per_million(rate: i64) -> f64
     requires { ⌜ natAbs rate ≤ steepest ⌝ }
     ensures { λ r. ⌜ r ≡ ppmOf rate ⌝ }
 {
-    whole::product(rate, MILLION) as f64 / PARTS
+    whole::mul(rate, MILLION) as f64 / PARTS
 }
 
 // The drift of a clock with these samples.

@@ -10,8 +10,8 @@ use numbers::whole;
 use samples::Gain;
 use samples::Sample;
 use samples::Samples;
-use samples::keeping;
-use samples::rates;
+use samples::kept;
+use samples::rate;
 use times::GrandTime;
 use times::LocalTime;
 use times::grand;
@@ -30,8 +30,8 @@ pub fn rate_between(older: Sample, newer: Sample) -> i64
     requires { ⌜ Limits (gainedOf older newer) (spreadOf older newer) ⌝ }
     ensures { λ r. ⌜ r ≡ rateBetween older newer ⌝ }
 {
-    match keeping::gain_between(older, newer) {
-        Gain::Within(d) => rates::rate(d, local::since(newer.local, older.local)),
+    match kept::gain_between(older, newer) {
+        Gain::Within(d) => rate::rate(d, local::since(newer.local, older.local)),
         Gain::Outside => 0,
     }
 }
@@ -45,7 +45,7 @@ pub fn time_at(older: Sample, newer: Sample, elapsed: u64, back: u64) -> GrandTi
     ensures { λ r. ⌜ r ≡ grandOf (sentUnits older newer elapsed back) ⌝ }
 {
     let rate = rate_between(older, newer);
-    let gain = rates::scaled(rate, whole::difference(elapsed, back));
+    let gain = rate::scaled(rate, whole::difference(elapsed, back));
     grand::moved(grand::later(newer.grand, elapsed), gain)
 }
 

@@ -8,9 +8,9 @@ use borrow.Author.Tests.{le-leb, leb-true}
 use lib.Dec.{leb}
 use lib.IntN.{ℤ, pos, natAbs, _-ℤ_, _*ℤ_}
 use Rattle.times.specs.declared.LocalTime.{LocalTime}
-use Rattle.samples.specs.Rate.{shortest, longest, perGain, one, Limits, limitsHold, gainOf, rateOf, scaledOf, rateWithin, steepest, neighbourRateOf}
-use Rattle.samples.specs.declared.Stamps.{Stamps}
-use Rattle.samples.specs.declared.Stamps.the-variants.{Unset, Set}
+use Rattle.samples.specs.Rate.{shortestSpread, longestSpread, perGain, one, Limits, limitsHold, gainOf, rateOf, scaledOf, rateWithin, steepest, neighbourRateOf}
+use Rattle.samples.specs.declared.Pair.{Pair}
+use Rattle.samples.specs.declared.Pair.the-variants.{Unset, Set}
 use Rattle.samples.specs.declared.Gain.{Gain}
 use Rattle.samples.specs.declared.Gain.the-variants.{Within, Outside}
 use Rattle.numbers.proofs.Ring.{natAbs-*}
@@ -20,11 +20,11 @@ use Rattle.times.proofs.TestLaws.{three-hold, refuted}
 -- ---- the limits, as a fact and as a test
 
 limits-true : (d : ℤ) (s : ℕ) → Limits d s → limitsHold d s ≡ true
-limits-true d s k = rw (le-leb shortest s (k .low), le-leb s longest (k .high), le-leb (natAbs d * perGain) s (k .near))
+limits-true d s k = rw (le-leb shortestSpread s (k .low), le-leb s longestSpread (k .high), le-leb (natAbs d * perGain) s (k .near))
 
 limits-told : (d : ℤ) (s : ℕ) → limitsHold d s ≡ true → Limits d s
 limits-told d s e =
-    let k = three-hold (leb shortest s) (leb s longest) (leb (natAbs d * perGain) s) e in
+    let k = three-hold (leb shortestSpread s) (leb s longestSpread) (leb (natAbs d * perGain) s) e in
     record { low = leb-true _ _ (k .0); high = leb-true _ _ (k .1); near = leb-true _ _ (k .2) }
 
 -- ---- the gain, within and outside the limits, and what it tells
@@ -61,8 +61,8 @@ unfolding rateOf
 rate-small d s k =
     floor-small (d *ℤ pos one) s steepest (omega (arith, k .low)) (rw (natAbs-* d (pos one)) (omega (arith, k .near, k .low)))
 
--- what a rate makes of a stretch within the longest is less than 2^28
-pub scaled-small : (rate u : ℤ) → natAbs rate ≤ steepest → natAbs u ≤ longest → natAbs (scaledOf rate u) < 2 ^ 28
+-- what a rate makes of a stretch within the longestSpread is less than 2^28
+pub scaled-small : (rate u : ℤ) → natAbs rate ≤ steepest → natAbs u ≤ longestSpread → natAbs (scaledOf rate u) < 2 ^ 28
 unfolding scaledOf
 scaled-small rate u hr hu =
     let h : natAbs (rate *ℤ u) < 137438961 * one = rw (natAbs-* rate u) (omega (arith, mul-le-mul-right (natAbs u) hr, hu)) in
@@ -73,7 +73,7 @@ pub within-small : (gain : Gain) (rise : ℤ) (s : ℕ) → gain ≡ gainOf rise
 within-small (Within d) rise s e = rate-small d s (within-gain rise s d e .1)
 within-small Outside rise s e = omega arith
 
-pub neighbour-small : (pair : Stamps) (local p : LocalTime) → natAbs (neighbourRateOf pair local p) ≤ steepest
+pub neighbour-small : (pair : Pair) (local p : LocalTime) → natAbs (neighbourRateOf pair local p) ≤ steepest
 unfolding neighbourRateOf
 neighbour-small Unset local p = omega arith
 neighbour-small (Set local0 p0) local p = within-small _ _ _ refl

@@ -6,17 +6,17 @@ use lib.IntN.{ℤ, pos, natAbs, _-ℤ_, _*ℤ_}
 use Rattle.numbers.specs.Whole.{floorDiv}
 use Rattle.times.specs.Times.{sinceOf}
 use Rattle.times.specs.declared.LocalTime.{LocalTime}
-use Rattle.samples.specs.declared.Stamps.{Stamps}
-use Rattle.samples.specs.declared.Stamps.the-variants.{Unset, Set}
+use Rattle.samples.specs.declared.Pair.{Pair}
+use Rattle.samples.specs.declared.Pair.the-variants.{Unset, Set}
 use Rattle.samples.specs.declared.Gain.{Gain}
 use Rattle.samples.specs.declared.Gain.the-variants.{Within, Outside}
 
 -- the shortest and the longest spread over which a rate is taken, and the least spread for one unit of gain
-abbrev pub shortest : ℕ
-shortest = 2 ^ 30
+abbrev pub shortestSpread : ℕ
+shortestSpread = 2 ^ 30
 
-abbrev pub longest : ℕ
-longest = 2 ^ 39
+abbrev pub longestSpread : ℕ
+longestSpread = 2 ^ 39
 
 abbrev pub perGain : ℕ
 perGain = 4000
@@ -27,12 +27,12 @@ one = 2 ^ 35
 
 -- the limits on a gain d over a spread S: as a fact, and as the test that decides it
 pub record Limits (d : ℤ) (s : ℕ) : Type 0 where
-  pub low : shortest ≤ s
-  pub high : s ≤ longest
+  pub low : shortestSpread ≤ s
+  pub high : s ≤ longestSpread
   pub near : natAbs d * perGain ≤ s
 
 abbrev pub limitsHold : ℤ → ℕ → Bool
-limitsHold d s = leb shortest s && leb s longest && leb (natAbs d * perGain) s
+limitsHold d s = leb shortestSpread s && leb s longestSpread && leb (natAbs d * perGain) s
 
 -- d, the rise of the other clock less the spread S of this one, where the limits hold
 unfoldable pub gainOf : ℤ → ℕ → Gain
@@ -56,6 +56,6 @@ abbrev pub steepest : ℕ
 steepest = 8589935
 
 -- the neighbour's rate from the stored pair (localTime, p) to the new one
-unfoldable pub neighbourRateOf : Stamps → LocalTime → LocalTime → ℤ
+unfoldable pub neighbourRateOf : Pair → LocalTime → LocalTime → ℤ
 neighbourRateOf Unset local p = pos 0
 neighbourRateOf (Set local0 p0) local p = rateWithin (gainOf (pos (sinceOf p p0)) (sinceOf local local0)) (sinceOf local local0)

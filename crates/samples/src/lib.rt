@@ -1,6 +1,6 @@
 // Samples: a grand time and the local time that it belongs to. What lies between two of them, the rate of one clock on another, and which are kept.
-pub mod keeping;
-pub mod rates;
+pub mod kept;
+pub mod rate;
 
 use times::ErrorTime;
 use times::GrandTime;
@@ -21,7 +21,7 @@ pub enum Samples {
 }
 
 // A neighbour's localTime and the arrival here that it belongs to.
-pub enum Stamps {
+pub enum Pair {
     Unset,
     Set(LocalTime, LocalTime),
 }

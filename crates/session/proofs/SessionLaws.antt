@@ -9,6 +9,7 @@ use borrow.Author.Tests.{ltb-true, ltb-false}
 use lib.Dec.{ltb, eqb}
 use lib.ListN.{length, take, drop, getD, set, drop-of-length-le, length-append, length-take, length-drop}
 use lib.Seq.{drop-drop, take-add, take-suc-set, append-snoc, drop-cons, take-all, take-at, take-take, take-append-le, length-take-le}
+use Rattle.refusals.specs.Refusals.{badLine as badNumber}
 use Rattle.bridge.specs.declared.Bridge.{Bridge}
 use Rattle.hexline.specs.Search.{upTo, foundAt}
 use Rattle.answer.specs.Answer.{Answer, badLine}
@@ -179,7 +180,7 @@ module _ (p : Program) where
 
   -- is answered as bad by each program
   abbrev badBy : Program → Bridge → Answer
-  badBy Listing b = toldOf b 14
+  badBy Listing b = toldOf b badNumber
   badBy Replay b = badLine b
 
   long-answer : (p : Program) (b : Bridge) (s : List ℕ) → longestLine < length s → badBy p b ≡ answerBy p b s

@@ -61,7 +61,15 @@ fn no_bridge() -> Bridge
         priority2: 0,
         clock: 0,
     };
-    let refused = bridge::setup(0, nobody, least, false, 0, 0, table::records::measured());
+    let refused = bridge::setup(
+        0,
+        nobody,
+        least,
+        false,
+        0,
+        0,
+        table::records::measured_settings(),
+    );
     refused.next
 }
 

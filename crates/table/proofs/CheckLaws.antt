@@ -10,7 +10,7 @@ use lib.Pow.{pow-mono}
 use Rattle.times.specs.Times.{circle, second}
 use Rattle.frame.specs.Frame.{frameLength}
 use Rattle.frame.specs.Read.{unless}
-use Rattle.table.specs.Refusals.{hasLink, onPort, portNo, sendNo, ownNo}
+use Rattle.table.specs.Arguments.{hasLink, onPort, portRefusal, sendRefusal, ownClockRefusal}
 use Rattle.frame.proofs.FrameLaws.{none}
 
 -- ---- a port with a link, at a local time in range
@@ -28,12 +28,12 @@ on-port n links port at rest e =
     let d = none (hasLink links port) 2 _ (c .1) in
     (record { low = leb-true _ _ (a .0); high = leb-true _ _ (b .0); time = ltb-true _ _ (c .0) }, d .1)
 
-pub port-ready : (n links port at : ℕ) → portNo n links port at ≡ 0 → Ready n port at
-unfolding portNo
+pub port-ready : (n links port at : ℕ) → portRefusal n links port at ≡ 0 → Ready n port at
+unfolding portRefusal
 port-ready n links port at e = on-port n links port at 0 e .0
 
-pub send-ready : (n links port t room : ℕ) → sendNo n links port t room ≡ 0 → Ready n port t × (frameLength ≤ room)
-unfolding sendNo
+pub send-ready : (n links port t room : ℕ) → sendRefusal n links port t room ≡ 0 → Ready n port t × (frameLength ≤ room)
+unfolding sendRefusal
 send-ready n links port t room e =
     let r = on-port n links port t _ e in
     (r .0, leb-true _ _ (none (leb frameLength room) 3 0 (r .1) .0))
@@ -49,12 +49,12 @@ on-port-most n links port at rest k h l = by (leb 1 port) (leb port n) (ltb at c
     by true true true false = h
     by true true true true = l
 
-pub port-most : (n links port at : ℕ) → portNo n links port at ≤ 3
-unfolding portNo
+pub port-most : (n links port at : ℕ) → portRefusal n links port at ≤ 3
+unfolding portRefusal
 port-most n links port at = on-port-most n links port at 0 3 (omega arith) (omega arith)
 
-pub send-most : (n links port t room : ℕ) → sendNo n links port t room ≤ 4
-unfolding sendNo
+pub send-most : (n links port t room : ℕ) → sendRefusal n links port t room ≤ 4
+unfolding sendRefusal
 send-most n links port t room = on-port-most n links port t _ 4 (omega arith) (short (leb frameLength room))
   where
     short : (r : Bool) → unless r 4 0 ≤ 4
@@ -76,16 +76,16 @@ on-port-rest n links port at rest = by (leb 1 port) (leb port n) (ltb at circle)
     by true true false d = refl
     by true true true false = refl
 
-pub send-by-port : (n links port t room k : ℕ) → k ≡ portNo n links port t → (k ≡ 0 → ⊥) → k ≡ sendNo n links port t room
-unfolding portNo sendNo
+pub send-by-port : (n links port t room k : ℕ) → k ≡ portRefusal n links port t → (k ≡ 0 → ⊥) → k ≡ sendRefusal n links port t room
+unfolding portRefusal sendRefusal
 send-by-port n links port t room k e h = again k h ∙ ap (λ (x : ℕ). orRest x (unless (leb frameLength room) 4 0)) e ∙ sym (on-port-rest n links port t _)
   where
     again : (k : ℕ) → (k ≡ 0 → ⊥) → k ≡ orRest k (unless (leb frameLength room) 4 0)
     again zero h = absurd (h refl)
     again (suc k) h = refl
 
-pub send-by-room : (n links port t room k : ℕ) → k ≡ portNo n links port t → k ≡ 0 → unless (leb frameLength room) 4 0 ≡ sendNo n links port t room
-unfolding portNo sendNo
+pub send-by-room : (n links port t room k : ℕ) → k ≡ portRefusal n links port t → k ≡ 0 → unless (leb frameLength room) 4 0 ≡ sendRefusal n links port t room
+unfolding portRefusal sendRefusal
 send-by-room n links port t room k e h = ap (λ (x : ℕ). orRest x (unless (leb frameLength room) 4 0)) (sym h ∙ e) ∙ sym (on-port-rest n links port t _)
 
 -- ---- a reading of a capable station's own clock, in range
@@ -95,8 +95,8 @@ pub record InTime (seconds fraction at : ℕ) : Type 0 where
   pub part : fraction < second
   pub time : at < circle
 
-pub own-ready : (capable : Bool) (seconds fraction at : ℕ) → ownNo capable seconds fraction at ≡ 0 → InTime seconds fraction at
-unfolding ownNo
+pub own-ready : (capable : Bool) (seconds fraction at : ℕ) → ownClockRefusal capable seconds fraction at ≡ 0 → InTime seconds fraction at
+unfolding ownClockRefusal
 own-ready capable seconds fraction at e =
     let a = none (ltb seconds second) 1 _ e in
     let b = none (ltb fraction second) 1 _ (a .1) in

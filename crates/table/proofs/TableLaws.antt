@@ -11,48 +11,48 @@ use lib.ListN.{length, getD, take, drop}
 use lib.Seq.{drop-cons, drop-length, getD-take, length-take-le}
 use Rattle.samples.specs.Keep.{LawfulSamples}
 use Rattle.choice.specs.Choose.{rankOf, candidateOf, betterOf}
-use Rattle.choice.specs.declared.Heard.{Heard}
-use Rattle.choice.specs.declared.Heard.the-variants.{Silent, Said}
-use Rattle.choice.specs.declared.Choice.{Choice}
-use Rattle.choice.specs.declared.Choice.the-variants.{Nothing, Clock}
+use Rattle.choice.specs.declared.Announcement.{Announcement}
+use Rattle.choice.specs.declared.Announcement.the-variants.{Silent, Announced}
+use Rattle.choice.specs.declared.Candidate.{Candidate}
+use Rattle.choice.specs.declared.Candidate.the-variants.{Nothing, Clock}
 use Rattle.port.specs.Record.{emptyPort}
 use Rattle.port.specs.Lawful.{LawfulPort, LawfulClock}
 use Rattle.port.specs.declared.Port.{Port}
 use Rattle.port.specs.declared.OwnClock.{OwnClock}
 use Rattle.port.specs.declared.Setting.{Setting}
-use Rattle.table.specs.Refusals.{bit}
+use Rattle.table.specs.Arguments.{bit}
 use Rattle.table.specs.Table.{portAt, relinkedPort, samplesAt, numberOf, samplesOfChoice, candidatesFrom, bestOf}
 use Rattle.table.specs.Fits.{delayFits, delaysFit}
 use Rattle.numbers.proofs.Branches.{if-when}
 
 -- ---- the choice, port by port
 
-pub best-turn : (ports : List Port) (i : ℕ) (d : Port) (choice next : Choice) → i < length ports → next ≡ betterOf choice (candidateOf (i + 1) (getD ports i d .heard))
+pub best-turn : (ports : List Port) (i : ℕ) (d : Port) (choice next : Candidate) → i < length ports → next ≡ betterOf choice (candidateOf (i + 1) (getD ports i d .announcement))
     → bestOf next (candidatesFrom (i + 1 + 1) (drop (i + 1) ports)) ≡ bestOf choice (candidatesFrom (i + 1) (drop i ports))
 unfolding bestOf candidatesFrom
 best-turn ports i d choice next h e = rw (e, add-one (i + 1), add-one i, drop-cons ports i d)
 
-pub best-end : (ports : List Port) (i : ℕ) (choice : Choice) → length ports ≡ i → bestOf choice (candidatesFrom (i + 1) (drop i ports)) ≡ choice
+pub best-end : (ports : List Port) (i : ℕ) (choice : Candidate) → length ports ≡ i → bestOf choice (candidatesFrom (i + 1) (drop i ports)) ≡ choice
 unfolding bestOf candidatesFrom
 best-end ports i choice e = rw (← e, drop-length)
 
 -- the number of the choice is that of a candidate
-pub best-number : (k : ℕ) (ports : List Port) (choice : Choice) → numberOf choice ≤ k + length ports → numberOf (bestOf choice (candidatesFrom (suc k) ports)) ≤ k + length ports
+pub best-number : (k : ℕ) (ports : List Port) (choice : Candidate) → numberOf choice ≤ k + length ports → numberOf (bestOf choice (candidatesFrom (suc k) ports)) ≤ k + length ports
 unfolding bestOf candidatesFrom candidateOf betterOf
 best-number k [] choice h = h
 best-number k (p ∷ ports) choice h =
-    let l : numberOf (betterOf choice (candidateOf (suc k) (p .heard))) ≤ suc k + length ports =
-    better-number choice (candidateOf (suc k) (p .heard)) (omega arith) (candidate-number (p .heard)) in
-    omega (arith, best-number (suc k) ports (betterOf choice (candidateOf (suc k) (p .heard))) l)
+    let l : numberOf (betterOf choice (candidateOf (suc k) (p .announcement))) ≤ suc k + length ports =
+    better-number choice (candidateOf (suc k) (p .announcement)) (omega arith) (candidate-number (p .announcement)) in
+    omega (arith, best-number (suc k) ports (betterOf choice (candidateOf (suc k) (p .announcement))) l)
   where
-    candidate-number : (h : Heard) → numberOf (candidateOf (suc k) h) ≤ suc k + length ports
+    candidate-number : (h : Announcement) → numberOf (candidateOf (suc k) h) ≤ suc k + length ports
     candidate-number Silent = omega arith
-    candidate-number (Said q h when) = omega arith
+    candidate-number (Announced q h when) = omega arith
 
-    better-number : (a b : Choice) {m : ℕ} → numberOf a ≤ m → numberOf b ≤ m → numberOf (betterOf a b) ≤ m
+    better-number : (a b : Candidate) {m : ℕ} → numberOf a ≤ m → numberOf b ≤ m → numberOf (betterOf a b) ≤ m
     better-number Nothing b x y = y
     better-number (Clock p h i) Nothing x y = x
-    better-number (Clock p h i) (Clock q k j) {m} x y = if-when (λ (c : Choice). numberOf c ≤ m) (ltb (rankOf q k j) (rankOf p h i)) (λ _. y) (λ _. x)
+    better-number (Clock p h i) (Clock q k j) {m} x y = if-when (λ (c : Candidate). numberOf c ≤ m) (ltb (rankOf q k j) (rankOf p h i)) (λ _. y) (λ _. x)
 
 -- ---- a port whose link changes, or not
 
@@ -80,8 +80,8 @@ unfolding samplesAt
 samples-port zero clock ports n = absurd (n refl)
 samples-port (suc i) clock ports n = ap (λ (k : ℕ). portAt ports k .samples) (sub-one (suc i))
 
-pub samples-none : (choice : Choice) (clock : OwnClock) (ports : List Port) → choice ≡ Nothing → samplesOfChoice Nothing clock ports ≡ samplesOfChoice choice clock ports
-samples-none choice clock ports e = ap (λ (x : Choice). samplesOfChoice x clock ports) (sym e)
+pub samples-none : (choice : Candidate) (clock : OwnClock) (ports : List Port) → choice ≡ Nothing → samplesOfChoice Nothing clock ports ≡ samplesOfChoice choice clock ports
+samples-none choice clock ports e = ap (λ (x : Candidate). samplesOfChoice x clock ports) (sym e)
 
 -- every clock's samples are lawful
 pub samples-lawful : (number : ℕ) (clock : OwnClock) (ports : List Port) → LawfulClock clock → ((i : ℕ) → LawfulPort (portAt ports i)) → LawfulSamples (samplesAt number clock ports)
@@ -89,7 +89,7 @@ unfolding samplesAt
 samples-lawful zero clock ports c p = c .samples
 samples-lawful (suc i) clock ports c p = p i .samples
 
-pub chosen-lawful : (choice : Choice) (clock : OwnClock) (ports : List Port) → LawfulClock clock → ((i : ℕ) → LawfulPort (portAt ports i)) → LawfulSamples (samplesOfChoice choice clock ports)
+pub chosen-lawful : (choice : Candidate) (clock : OwnClock) (ports : List Port) → LawfulClock clock → ((i : ℕ) → LawfulPort (portAt ports i)) → LawfulSamples (samplesOfChoice choice clock ports)
 unfolding samplesOfChoice
 chosen-lawful Nothing clock ports c p = tt
 chosen-lawful (Clock q h n) clock ports c p = samples-lawful n clock ports c p

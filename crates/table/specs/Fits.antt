@@ -11,7 +11,7 @@ use Rattle.relay.specs.declared.DelaySetting.the-variants.{Measured, Fixed}
 use Rattle.port.specs.declared.Setting.{Setting}
 use Rattle.table.specs.Table.{mostPorts}
 
--- a timeout from the least to the greatest; a fixed delay no longer than the longest
+-- a timeout from the least to the greatest; a fixed delay no longer than the longestSpread
 abbrev pub leastTimeout : ℕ
 leastTimeout = 2 ^ 36
 

@@ -1,3 +1,3 @@
-pub mod Refusals
+pub mod Arguments
 pub mod Table
 pub mod Fits

@@ -8,12 +8,12 @@ use Rattle.samples.specs.declared.Samples.{Samples}
 use Rattle.samples.specs.declared.Samples.the-variants.{Empty}
 use Rattle.choice.specs.declared.Precedence.{Precedence}
 use Rattle.choice.specs.Choose.{candidateOf, ownCandidate, betterOf}
-use Rattle.choice.specs.declared.Choice.{Choice}
-use Rattle.choice.specs.declared.Choice.the-variants.{Nothing, Clock}
+use Rattle.choice.specs.declared.Candidate.{Candidate}
+use Rattle.choice.specs.declared.Candidate.the-variants.{Nothing, Clock}
 use Rattle.port.specs.Record.{emptyPort}
 use Rattle.port.specs.declared.Port.{Port}
 use Rattle.port.specs.declared.OwnClock.{OwnClock}
-use Rattle.table.specs.Refusals.{bit}
+use Rattle.table.specs.Arguments.{bit}
 
 -- the most ports
 abbrev pub mostPorts : ℕ
@@ -33,17 +33,17 @@ unfoldable pub relinkedPort : ℕ → ℕ → ℕ → Port → Port
 relinkedPort links mask i port = cond (eqb (bit links i) 1 && eqb (bit mask i) 0) emptyPort port
 
 -- the candidates of the ports, the first of which has the number k
-unfoldable pub candidatesFrom : ℕ → List Port → List Choice
+unfoldable pub candidatesFrom : ℕ → List Port → List Candidate
 candidatesFrom k [] = []
-candidatesFrom k (p ∷ ps) = candidateOf k (p .heard) ∷ candidatesFrom (suc k) ps
+candidatesFrom k (p ∷ ps) = candidateOf k (p .announcement) ∷ candidatesFrom (suc k) ps
 
 -- the best of a candidate and a list of them
-unfoldable pub bestOf : Choice → List Choice → Choice
+unfoldable pub bestOf : Candidate → List Candidate → Candidate
 bestOf best [] = best
 bestOf best (c ∷ cs) = bestOf (betterOf best c) cs
 
 -- own clock first, then the ports
-abbrev pub choiceOf : Bool → Precedence → List Port → Choice
+abbrev pub choiceOf : Bool → Precedence → List Port → Candidate
 choiceOf capable own ports = bestOf (ownCandidate capable own) (candidatesFrom 1 ports)
 
 -- the samples of the own clock, 0, or of the port with this number
@@ -52,11 +52,11 @@ samplesAt zero clock ports = clock .samples
 samplesAt (suc i) clock ports = portAt ports i .samples
 
 -- the number of a choice, 0 where there is none
-abbrev pub numberOf : Choice → ℕ
+abbrev pub numberOf : Candidate → ℕ
 numberOf Nothing = 0
 numberOf (Clock precedence hop number) = number
 
 -- the samples of the chosen clock, none where no clock is chosen
-unfoldable pub samplesOfChoice : Choice → OwnClock → List Port → Samples
+unfoldable pub samplesOfChoice : Candidate → OwnClock → List Port → Samples
 samplesOfChoice Nothing clock ports = Empty
 samplesOfChoice (Clock precedence hop number) clock ports = samplesAt number clock ports

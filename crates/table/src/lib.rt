@@ -1,3 +1,3 @@
 // The eight records as a table, and the refusals that are found before any of them is looked at.
-pub mod checks;
+pub mod arguments;
 pub mod records;

@@ -5,13 +5,13 @@ ghost use lib.ListN.{replicate};
 ghost use Rattle.port.specs.Record.{agedPort};
 ghost use Rattle.table.specs.Table.{each, samplesAt, samplesOfChoice, numberOf, relinkedPort, choiceOf};
 ghost use Rattle.table.specs.Fits.{measuredSetting};
-use choice::Choice;
+use choice::Candidate;
 use choice::Precedence;
 use choice::candidates;
 use port::OwnClock;
 use port::Port;
 use port::Setting;
-use port::ageing;
+use port::record;
 use relay::DelaySetting;
 use samples::Samples;
 use times::LocalTime;
@@ -20,7 +20,7 @@ use times::LocalTime;
 const PORTS: usize = 8;
 
 // Settings of ports that all measure their delay.
-pub fn measured() -> [Setting; 8]
+pub fn measured_settings() -> [Setting; 8]
     ensures { λ r. ⌜ r ≡ replicate 8 measuredSetting ⌝ }
 {
     let setting = Setting {
@@ -37,7 +37,7 @@ pub fn aged(ports: [Port; 8], at: LocalTime, timeout: u64) -> [Port; 8]
     let mut i: usize = 0;
     while i < PORTS {
         let port = after[i];
-        after[i] = ageing::aged(port, at, timeout);
+        after[i] = record::aged(port, at, timeout);
         i += 1;
     }
     after
@@ -50,7 +50,7 @@ pub fn relinked_port(port: Port, links: u8, mask: u8, i: usize) -> Port
 {
     if (links >> i) % 2 == 1 {
         if (mask >> i) % 2 == 0 {
-            return ageing::empty();
+            return record::empty();
         }
     }
     port
@@ -70,16 +70,16 @@ pub fn relinked(ports: [Port; 8], links: u8, mask: u8) -> [Port; 8]
     after
 }
 
-// The choice between the own clock, on a station that is capable, and the clocks heard at the ports.
-pub fn choice(capable: bool, own: Precedence, ports: [Port; 8]) -> Choice
+// The choice between the own clock, on a station that is capable, and the clocks announcement at the ports.
+pub fn choice(capable: bool, own: Precedence, ports: [Port; 8]) -> Candidate
     ensures { λ r. ⌜ r ≡ choiceOf capable own ports ⌝ }
 {
     let mut best = candidates::own_candidate(capable, own);
     let mut i: usize = 0;
     while i < PORTS {
         let port = ports[i];
-        let heard = port.heard;
-        best = candidates::better(best, candidates::candidate(heard, (i + 1) as u8));
+        let announcement = port.announcement;
+        best = candidates::better(best, candidates::candidate(announcement, (i + 1) as u8));
         i += 1;
     }
     best
@@ -101,12 +101,12 @@ pub fn samples_at(number: u8, clock: OwnClock, ports: [Port; 8]) -> Samples
 }
 
 // The samples of the chosen clock, none where no clock is chosen.
-pub fn samples_of_choice(choice: Choice, clock: OwnClock, ports: [Port; 8]) -> Samples
+pub fn samples_of_choice(choice: Candidate, clock: OwnClock, ports: [Port; 8]) -> Samples
     requires { ⌜ numberOf choice ≤ 8 ⌝ }
     ensures { λ r. ⌜ r ≡ samplesOfChoice choice clock ports ⌝ }
 {
     match choice {
-        Choice::Nothing => Samples::Empty,
-        Choice::Clock(_, _, number) => samples_at(number, clock, ports),
+        Candidate::Nothing => Samples::Empty,
+        Candidate::Clock(_, _, number) => samples_at(number, clock, ports),
     }
 }

@@ -1,4 +1,3 @@
 pub mod TestLaws
 pub mod TimeLaws
 pub mod RiseLaws
-pub mod HopLaws

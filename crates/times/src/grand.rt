@@ -38,9 +38,9 @@ pub fn moved(g: GrandTime, x: i64) -> GrandTime
     ensures { λ r. ⌜ r ≡ grandOf (atLeastZero (pos (units g) +ℤ x)) ⌝ }
 {
     if whole::is_negative(x) {
-        earlier(g, whole::size(x))
+        earlier(g, whole::abs(x))
     } else {
-        later(g, whole::size(x))
+        later(g, whole::abs(x))
     }
 }
 

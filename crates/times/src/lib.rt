@@ -1,7 +1,6 @@
 // The two kinds of time, which never stand for each other, and the arithmetic on each; the hop count, which goes with them from station to station.
 // The unit of every time is U = 2^-40 s.
 pub mod grand;
-pub mod hops;
 pub mod local;
 
 // A reading of a local clock, 0 to 2^48 - 1: it wraps every 256 s.

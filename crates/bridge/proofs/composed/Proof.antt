@@ -3,7 +3,7 @@ use borrow.Author.Needs.{needs}
 use mathlib.Core.Path.{sym, ap, _∙_, subst}
 use Prim.Native.Nat.{_≤_}
 use Rattle.samples.specs.Keep.{LawfulSamples}
-use Rattle.choice.specs.declared.Choice.{Choice}
+use Rattle.choice.specs.declared.Candidate.{Candidate}
 use Rattle.port.specs.Send.{sendingOf}
 use Rattle.table.specs.Table.{portAt, numberOf, samplesOfChoice}
 use Rattle.bridge.specs.Chosen.{chosenOf}
@@ -27,7 +27,7 @@ unfolding chosenOf
 samples-of-choice-requires c κs =
     let k = c .before .before .before in
     let s = k .before .before .before in
-    subst (λ (x : Choice). numberOf x ≤ 8) (sym (k .choice .ensures)) (chosen-number (s .args .t1) (s .pre .0 .records))
+    subst (λ (x : Candidate). numberOf x ≤ 8) (sym (k .choice .ensures)) (chosen-number (s .args .t1) (s .pre .0 .records))
 
 composed-requires : tie.Need-composed-requires
 composed-requires c κs =
@@ -41,7 +41,7 @@ returns c =
     let m = c .before in
     let k = m .before .before .before .before in
     let a = k .before .before .before .args in
-    let picked = m .samples-of-choice .ensures ∙ ap (λ (x : Choice). samplesOfChoice x (a .t1 .clock) (a .t1 .ports)) (k .choice .ensures) in
+    let picked = m .samples-of-choice .ensures ∙ ap (λ (x : Candidate). samplesOfChoice x (a .t1 .clock) (a .t1 .ports)) (k .choice .ensures) in
     c .composed .ensures ∙ (λ i. sendingOf (k .choice .ensures i) (picked i) (a .t1 .mac) (a .t1 .back) (a .t) (portAt (a .t1 .ports) (a .i)))
 
 pub composed-spec : {M : Type 1} → statement M

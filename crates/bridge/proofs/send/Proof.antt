@@ -14,12 +14,12 @@ use Rattle.bridge.proofs.Keeps.{usedOf-lawful, composed-written}
 use Rattle.bridge.proofs.send.Statement.{statement}
 use Rattle.bridge.proofs.send.Tie as tie
 
-send-no-requires : tie.Need-send-no-requires
-send-no-requires c κs = search needs
+send-refusal-requires : tie.Need-send-refusal-requires
+send-refusal-requires c κs = search needs
 
 -- where nothing was refused: a port with a link, a local time in range, and room
 ready : (c : tie.Else1) → let a = c .before .before .before .args in Ready (a .b .n) (a .port) (a .t) × (frameLength ≤ length (a .out .now))
-ready c = send-ready _ _ _ _ _ (sym (c .before .send-no .ensures) ∙ c .if1 .left)
+ready c = send-ready _ _ _ _ _ (sym (c .before .send-refusal .ensures) ∙ c .if1 .left)
 
 index : (c : tie.Else1) → c .before .before .before .args .port - 1 < 8
 index c = omega (arith, ready c .0 .low, ready c .0 .high, c .before .before .before .pre .ports-most)
@@ -28,8 +28,8 @@ returns : tie.Need-returns
 returns c =
     let k = c .before in
     let s = k .before .before in (
-      send-refused _ _ _ (s .args .out .now) _ (k .send-no .ensures) (c .if1 .taken),
-      (send-untouched _ _ _ (s .args .out .now) _ (k .send-no .ensures) (c .if1 .taken), s .pre),
+      send-refused _ _ _ (s .args .out .now) _ (k .send-refusal .ensures) (c .if1 .taken),
+      (send-untouched _ _ _ (s .args .out .now) _ (k .send-refusal .ensures) (c .if1 .taken), s .pre),
     )
 
 sub-i : tie.Need-sub-i
@@ -65,12 +65,12 @@ returns-2 c =
     d .delivered .ensures .0
     ∙ ap (λ (x : Sending). deliveredNo x (length (a .out .now))) (m .composed .ensures)
     ∙ delivered-answer (a .out .now) _ fits in (
-      (λ i. answers (answer i) (c .used .ensures i)) ∙ send-answers _ _ _ (a .out .now) _ (k .send-no .ensures) (e .if1 .left),
+      (λ i. answers (answer i) (c .used .ensures i)) ∙ send-answers _ _ _ (a .out .now) _ (k .send-refusal .ensures) (e .if1 .left),
       (
         d .delivered .ensures .1
             ∙ ap (λ (x : Sending). deliveredBytes x (a .out .now)) (m .composed .ensures)
             ∙ delivered-bytes (a .out .now) _ fits
-            ∙ send-fills _ _ _ (a .out .now) _ (k .send-no .ensures) (e .if1 .left),
+            ∙ send-fills _ _ _ (a .out .now) _ (k .send-refusal .ensures) (e .if1 .left),
         subst Lawful (sym (c .used .ensures)) (usedOf-lawful _ _ (s .pre)),
       ),
     )
@@ -79,7 +79,7 @@ pub send-spec : {M : Type 1} → statement M
 send-spec =
     tie.close
     (tie.spec
-    send-no-requires
+    send-refusal-requires
     returns
     sub-i
     cast-i

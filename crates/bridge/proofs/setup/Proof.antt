@@ -26,8 +26,8 @@ returns c =
     let o = c .before .before in
     out _ _ (ap (answers 0) (c .fresh .ensures) ∙ setup-done _ _ _ _ _ _ _ (sym (o .setup-fits .ensures) ∙ c .before .if1 .taken)) (setup-lawful _ _ _ _ _ _ _ (eight o))
 
-measured-requires : tie.Need-measured-requires
-measured-requires c κs = search needs
+measured-settings-requires : tie.Need-measured-settings-requires
+measured-settings-requires c κs = search needs
 
 fresh-requires-2 : tie.Need-fresh-requires-2
 fresh-requires-2 c κs = search needs
@@ -37,7 +37,7 @@ returns-2 c =
     let m = c .before in
     let o = m .before .before in
     out _ _
-    (ap (answers 1) (c .fresh2 .ensures ∙ ap (freshOf 0 noMac noPrecedence false 0 0) (m .measured .ensures))
+    (ap (answers 1) (c .fresh2 .ensures ∙ ap (freshOf 0 noMac noPrecedence false 0 0) (m .measured-settings .ensures))
     ∙ setup-refused _ _ _ _ _ _ _ (sym (o .setup-fits .ensures) ∙ m .before .if1 .left))
     (setup-lawful _ _ _ _ _ _ _ (eight o))
 
@@ -48,6 +48,6 @@ setup-spec =
     setup-fits-requires
     fresh-requires
     returns
-    measured-requires
+    measured-settings-requires
     fresh-requires-2
     returns-2)

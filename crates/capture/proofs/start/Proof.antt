@@ -17,7 +17,7 @@ returns c =
     let u = l .before .before in
     let m = u .before in
     let set : u .setup .result ≡ setupOf listingPorts noMac noPrecedence false defaultTimeout defaultBack _ =
-    u .setup .ensures .0 ∙ ap (setupOf listingPorts noMac noPrecedence false defaultTimeout defaultBack) (m .measured .ensures) in
+    u .setup .ensures .0 ∙ ap (setupOf listingPorts noMac noPrecedence false defaultTimeout defaultBack) (m .measured-settings .ensures) in
     (ap (λ (x : Linked). x .next) (l .links .ensures .0 ∙ ap (λ (x : Done). linksOf (x .next) bothLinked) set), l .links .ensures .1)
 
 pub start-spec : {M : Type 1} → statement M

@@ -1,7 +1,7 @@
 -- By the cases of two candidates, and by their ranks.
 use mathlib.Core.Path.{sym, ap, _∙_}
 use Rattle.choice.specs.Choose.{betterOf}
-use Rattle.choice.specs.declared.Choice.{Choice}
+use Rattle.choice.specs.declared.Candidate.{Candidate}
 use Rattle.numbers.proofs.Branches.{if-true, if-false}
 use borrow.Author.Needs.{needs}
 use Rattle.choice.proofs.candidates.better.Statement.{statement}
@@ -24,7 +24,7 @@ outranks-requires c κs = search needs
 
 returns : tie.Need-returns
 unfolding betterOf
-returns c = ap (λ (a : Choice). betterOf a (c .before .before .args .b)) (sym (c .enum-told .given .1))
+returns c = ap (λ (a : Candidate). betterOf a (c .before .before .args .b)) (sym (c .enum-told .given .1))
 
 returns-2 : tie.Need-returns-2
 unfolding betterOf

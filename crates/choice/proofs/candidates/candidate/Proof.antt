@@ -8,8 +8,8 @@ use Rattle.choice.proofs.candidates.candidate.Tie as tie
 enum-told : tie.Need-enum-told
 enum-told c = search needs
 
-enum-known-heard : tie.Need-enum-known-heard
-enum-known-heard c = search needs
+enum-known-announcement : tie.Need-enum-known-announcement
+enum-known-announcement c = search needs
 
 returns : tie.Need-returns
 unfolding candidateOf
@@ -17,7 +17,7 @@ returns c = ap (candidateOf (c .before .before .args .number)) (sym (c .enum-tol
 
 returns-2 : tie.Need-returns-2
 unfolding candidateOf
-returns-2 c = ap (candidateOf (c .before .before .before .args .number)) (sym (c .before .heard .given .1))
+returns-2 c = ap (candidateOf (c .before .before .before .args .number)) (sym (c .before .announcement .given .1))
 
 pub candidate-spec : {M : Type 1} → statement M
-candidate-spec = tie.close (tie.spec enum-told enum-known-heard returns returns-2)
+candidate-spec = tie.close (tie.spec enum-told enum-known-announcement returns returns-2)

@@ -38,14 +38,14 @@ there-is c = got (c .difference .ok) (c .difference .ensures ∙ ap pos (add-zer
 gain-is : (c : tie.After-scaled) → toZ w64 (ofZ w64 (c .scaled .result)) ≡ gain (c .before .before)
 gain-is c = got (c .scaled .ok) (c .scaled .ensures ∙ rw (rate-is (c .before .before), there-is (c .before)))
 
-here-is : (c : tie.After-sum) → toZ w64 (ofZ w64 (c .sum .result)) ≡ here (c .before .before .before)
-here-is c = got (c .sum .ok) (c .sum .ensures ∙ rw (gain-is (c .before), there-is (c .before .before)))
+here-is : (c : tie.After-add) → toZ w64 (ofZ w64 (c .add .result)) ≡ here (c .before .before .before)
+here-is c = got (c .add .ok) (c .add .ensures ∙ rw (gain-is (c .before), there-is (c .before .before)))
 
 trip-is : (c : tie.After-difference2) → toZ w64 (ofZ w64 (c .difference2 .result)) ≡ pos (c .before .before .before .before .args .trip)
 trip-is c = got (c .difference2 .ok) (c .difference2 .ensures ∙ ap pos (add-zero _))
 
-both-is : (c : tie.After-less) → toZ w64 (ofZ w64 (c .less .result)) ≡ both (c .before .before .before .before .before)
-both-is c = got (c .less .ok) (c .less .ensures ∙ rw (trip-is (c .before), here-is (c .before .before)))
+both-is : (c : tie.After-sub) → toZ w64 (ofZ w64 (c .sub .result)) ≡ both (c .before .before .before .before .before)
+both-is c = got (c .sub .ok) (c .sub .ensures ∙ rw (trip-is (c .before), here-is (c .before .before)))
 
 difference-requires : tie.Need-difference-requires
 difference-requires c κs = search needs
@@ -53,14 +53,14 @@ difference-requires c κs = search needs
 scaled-requires : tie.Need-scaled-requires
 scaled-requires c κs = rw (rate-is (c .before), there-is c) (c .before .pre .0, c .before .pre .2)
 
-sum-requires : tie.Need-sum-requires
-sum-requires c κs = rw (gain-is c, there-is (c .before)) (omega (arith, c .before .before .pre .2, gain-small (c .before .before)))
+add-requires : tie.Need-add-requires
+add-requires c κs = rw (gain-is c, there-is (c .before)) (omega (arith, c .before .before .pre .2, gain-small (c .before .before)))
 
 difference-requires-2 : tie.Need-difference-requires-2
 difference-requires-2 c κs = search needs
 
-less-requires : tie.Need-less-requires
-less-requires c κs =
+sub-requires : tie.Need-sub-requires
+sub-requires c κs =
     let s = c .before .before .before .before in
     rw (trip-is c, here-is (c .before)) (omega (arith, s .pre .1, s .pre .2, gain-small s, natAbs-+ (pos (s .args .turn)) (gain s)))
 
@@ -83,9 +83,9 @@ half-trip-spec =
     (tie.spec
     difference-requires
     scaled-requires
-    sum-requires
+    add-requires
     difference-requires-2
-    less-requires
+    sub-requires
     floor-div-requires
     at-least-zero-requires
     returns)

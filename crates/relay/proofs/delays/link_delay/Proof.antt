@@ -42,8 +42,8 @@ since-requires c κs = search needs
 since-requires-2 : tie.Need-since-requires-2
 since-requires-2 c κs = search needs
 
-measured-requires : tie.Need-measured-requires
-measured-requires c κs = rw (rate-is (c .before .before)) (neighbour-small _ _ _)
+measured-delay-requires : tie.Need-measured-delay-requires
+measured-delay-requires c κs = rw (rate-is (c .before .before)) (neighbour-small _ _ _)
 
 returns-2 : tie.Need-returns-2
 returns-2 c = delay-fixed _ _ _ _ _ _ _ (c .before .setting .given .1)
@@ -51,7 +51,7 @@ returns-2 c = delay-fixed _ _ _ _ _ _ _ (c .before .setting .given .1)
 returns-3 : tie.Need-returns-3
 returns-3 c =
     let r = c .before .before .before in
-    c .measured .ensures
+    c .measured-delay .ensures
     ∙ rw (rate-is r, c .before .before .since .ensures, c .before .since2 .ensures)
     (delay-heard _ _ _ _ _ _ (r .before .before .before .enum-told .given .1) (heard (r .before)))
 
@@ -65,6 +65,6 @@ link-delay-spec =
     neighbour-rate-requires
     since-requires
     since-requires-2
-    measured-requires
+    measured-delay-requires
     returns-2
     returns-3)

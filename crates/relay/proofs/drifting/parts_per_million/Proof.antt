@@ -1,4 +1,4 @@
--- A rate in parts per million: the product is a whole number that a float holds, and the quotient is exact.
+-- A rate in parts per million: the mul is a whole number that a float holds, and the quotient is exact.
 use mathlib.Core.Path.{_≡_, ap, _∙_}
 use native.Mathlib.Omega.{arith}
 use lib.IntN.{ℤ, pos, _*ℤ_}
@@ -14,22 +14,22 @@ use Rattle.relay.proofs.drifting.parts_per_million.Tie as tie
 rate-is : (c : tie.Start) → toZ w64 (ofZ w64 (c .args .rate)) ≡ c .args .rate
 rate-is c = back (c .args .rate) (c .fits .rate)
 
-product-requires : tie.Need-product-requires
-product-requires c κs = rw (rate-is c) (omega arith)
+mul-requires : tie.Need-mul-requires
+mul-requires c κs = rw (rate-is c) (omega arith)
 
--- the product as it is cast
-product-is : (c : tie.After-product) → toZ w64 (ofZ w64 (c .product .result)) ≡ c .before .args .rate *ℤ pos million
-product-is c = got (c .product .ok) (c .product .ensures ∙ ap (λ (r : ℤ). r *ℤ pos million) (rate-is (c .before)))
+-- the mul as it is cast
+mul-is : (c : tie.After-mul) → toZ w64 (ofZ w64 (c .mul .result)) ≡ c .before .args .rate *ℤ pos million
+mul-is c = got (c .mul .ok) (c .mul .ensures ∙ ap (λ (r : ℤ). r *ℤ pos million) (rate-is (c .before)))
 
 int-to-float-result : tie.Need-int-to-float-result
 int-to-float-result c =
     let s = c .before .before in
-    rw (product-is (c .before)) (in-float (s .args .rate *ℤ pos million) (ppm-small (s .args .rate) (s .pre)))
+    rw (mul-is (c .before)) (in-float (s .args .rate *ℤ pos million) (ppm-small (s .args .rate) (s .pre)))
 
 returns : tie.Need-returns
 returns c =
     let s = c .before .before in
-    rw (product-is (c .before)) (ppm-is (s .args .rate) (s .pre))
+    rw (mul-is (c .before)) (ppm-is (s .args .rate) (s .pre))
 
 pub parts-per-million-spec : {M : Type 1} → statement M
-parts-per-million-spec = tie.close (tie.spec product-requires int-to-float-result returns)
+parts-per-million-spec = tie.close (tie.spec mul-requires int-to-float-result returns)

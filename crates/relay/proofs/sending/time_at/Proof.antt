@@ -7,7 +7,7 @@ use native.Mathlib.Omega.{arith}
 use lib.IntN.{ℤ, natAbs}
 use mir.Syntax.{w64}
 use mir.Val.{toZ, ofZ}
-use Rattle.samples.specs.Rate.{longest, steepest, scaledOf}
+use Rattle.samples.specs.Rate.{longestSpread, steepest, scaledOf}
 use Rattle.samples.specs.Keep.{spreadOf, gainedOf}
 use Rattle.relay.specs.Sent.{rateBetween, reachOf}
 use Rattle.numbers.proofs.Machine.{got}
@@ -26,7 +26,7 @@ reach c = reachOf (c .args .elapsed) (c .args .back)
 rate-le : (c : tie.Start) → natAbs (rate c) ≤ steepest
 rate-le c = rate-small (gainedOf (c .args .older) (c .args .newer)) (spreadOf (c .args .older) (c .args .newer)) (c .pre .1 .1 .0)
 
-reach-le : (c : tie.Start) → natAbs (reach c) ≤ longest
+reach-le : (c : tie.Start) → natAbs (reach c) ≤ longestSpread
 reach-le c = le-of-lt (reach-lt (c .args .elapsed) (c .args .back) (c .pre .1 .1 .1 .0) (c .pre .1 .1 .1 .1))
 
 rate-between-requires : tie.Need-rate-between-requires

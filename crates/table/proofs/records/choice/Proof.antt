@@ -5,7 +5,7 @@ use native.Mathlib.Omega.{arith}
 use borrow.Author.Needs.{needs}
 use lib.ListN.{length, drop}
 use Rattle.choice.specs.Choose.{betterOf}
-use Rattle.choice.specs.declared.Choice.{Choice}
+use Rattle.choice.specs.declared.Candidate.{Candidate}
 use Rattle.port.specs.Record.{emptyPort}
 use Rattle.table.specs.Table.{candidatesFrom, bestOf}
 use Rattle.table.proofs.TableLaws.{best-turn, best-end}
@@ -60,7 +60,7 @@ returns c =
     let o = c .before .before in
     sym (best-end _ (l .i) (l .best) (omega arith))
     ∙ l .inv .2
-    ∙ ap (λ (x : Choice). bestOf x (candidatesFrom 1 (o .before .args .t3))) (o .own-candidate .ensures)
+    ∙ ap (λ (x : Candidate). bestOf x (candidatesFrom 1 (o .before .args .t3))) (o .own-candidate .ensures)
 
 pub choice-spec : {M : Type 1} → statement M
 choice-spec =

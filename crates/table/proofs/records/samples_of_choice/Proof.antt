@@ -1,7 +1,7 @@
 -- By whether a clock is chosen.
 use mathlib.Core.Path.{sym, ap, _∙_, subst}
 use Prim.Native.Nat.{_≤_}
-use Rattle.choice.specs.declared.Choice.{Choice}
+use Rattle.choice.specs.declared.Candidate.{Candidate}
 use Rattle.table.specs.Table.{numberOf, samplesOfChoice}
 use Rattle.table.proofs.TableLaws.{samples-none}
 use borrow.Author.Needs.{needs}
@@ -15,7 +15,7 @@ enum-known-choice : tie.Need-enum-known-choice
 enum-known-choice c = search needs
 
 samples-at-requires : tie.Need-samples-at-requires
-samples-at-requires c κs = subst (λ (x : Choice). numberOf x ≤ 8) (c .before .choice .given .1) (c .before .before .before .pre)
+samples-at-requires c κs = subst (λ (x : Candidate). numberOf x ≤ 8) (c .before .choice .given .1) (c .before .before .before .pre)
 
 returns : tie.Need-returns
 unfolding samplesOfChoice
@@ -26,7 +26,7 @@ unfolding samplesOfChoice
 returns-2 c =
     let k = c .before .before in
     let a = k .before .before .args in
-    c .samples-at .ensures ∙ ap (λ (x : Choice). samplesOfChoice x (a .clock) (a .ports)) (sym (k .choice .given .1))
+    c .samples-at .ensures ∙ ap (λ (x : Candidate). samplesOfChoice x (a .clock) (a .ports)) (sym (k .choice .given .1))
 
 pub samples-of-choice-spec : {M : Type 1} → statement M
 samples-of-choice-spec =

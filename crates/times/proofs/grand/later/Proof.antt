@@ -1,4 +1,4 @@
--- The sum of the fractions, with its whole second carried over.
+-- The add of the fractions, with its whole second carried over.
 use borrow.Author.Needs.{needs}
 use native.Mathlib.Omega.{arith}
 use Rattle.times.proofs.TimeLaws.{grand-is}

@@ -1,4 +1,4 @@
--- Earlier by the size of x where x is below zero, later by it where not.
+-- Earlier by the abs of x where x is below zero, later by it where not.
 use borrow.Author.Needs.{needs}
 use mathlib.Core.Path.{_≡_, sym, ap, _∙_}
 use Prim.Native.Nat.{_+_, _-_}
@@ -25,23 +25,23 @@ same-x c = back (c .args .x) (c .fits .x)
 sign : (c : tie.After-is-negative) → c .is-negative .result ≡ ltZ (c .before .args .x) (pos 0)
 sign c = c .is-negative .ensures ∙ ap (λ (y : ℤ). ltZ y (pos 0)) (same-x (c .before))
 
-down : (c : tie.After-size) → c .size .result ≡ natAbs (c .before .before .before .args .x)
-down c = c .size .ensures ∙ ap natAbs (same-x (c .before .before .before))
+down : (c : tie.After-abs) → c .abs .result ≡ natAbs (c .before .before .before .args .x)
+down c = c .abs .ensures ∙ ap natAbs (same-x (c .before .before .before))
 
-up : (c : tie.After-size2) → c .size2 .result ≡ natAbs (c .before .before .before .args .x)
-up c = c .size2 .ensures ∙ ap natAbs (same-x (c .before .before .before))
+up : (c : tie.After-abs2) → c .abs2 .result ≡ natAbs (c .before .before .before .args .x)
+up c = c .abs2 .ensures ∙ ap natAbs (same-x (c .before .before .before))
 
 is-negative-requires : tie.Need-is-negative-requires
 is-negative-requires c κs = search needs
 
-size-requires : tie.Need-size-requires
-size-requires c κs = search needs
+abs-requires : tie.Need-abs-requires
+abs-requires c κs = search needs
 
 earlier-requires : tie.Need-earlier-requires
 earlier-requires c κs = omega (arith, down c)
 
-size-requires-2 : tie.Need-size-requires-2
-size-requires-2 c κs = search needs
+abs-requires-2 : tie.Need-abs-requires-2
+abs-requires-2 c κs = search needs
 
 later-requires : tie.Need-later-requires
 later-requires c κs = omega (arith, up c)
@@ -49,7 +49,7 @@ later-requires c κs = omega (arith, up c)
 returns : tie.Need-returns
 returns c =
     let s = c .before .before .before .before in
-    let n = c .before .size .result in
+    let n = c .before .abs .result in
     c .earlier .ensures
     ∙ ap timeOf
     (moved-down (units (s .args .g) - n) n (units (s .args .g)) (s .args .x)
@@ -60,7 +60,7 @@ returns c =
 returns-2 : tie.Need-returns-2
 returns-2 c =
     let s = c .before .before .before .before in
-    let n = c .before .size2 .result in
+    let n = c .before .abs2 .result in
     c .later .ensures
     ∙ ap timeOf
     (moved-up (units (s .args .g) + n) n (units (s .args .g)) (s .args .x)
@@ -73,9 +73,9 @@ moved-spec =
     tie.close
     (tie.spec
     is-negative-requires
-    size-requires
+    abs-requires
     earlier-requires
-    size-requires-2
+    abs-requires-2
     later-requires
     returns
     returns-2)

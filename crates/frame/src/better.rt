@@ -1,0 +1,63 @@
+// The better of two frames, as a part of it.
+ghost use mathlib.Core.Path.{_≡_};
+ghost use Rattle.frame.specs.Better.{standingOf, winnerOf, lies, betterPartOf};
+use crate::Reading;
+use crate::Standing;
+use crate::Winner;
+use crate::read;
+use choice::hop;
+use choice::order;
+
+// Where the 13 precedence bytes of a frame start and end.
+const PRECEDENCE_START: usize = 16;
+
+const PRECEDENCE_END: usize = 29;
+
+// How a frame stands: what meets 4, 5, 6 or 7 loses.
+pub fn standing(frame: &[u8]) -> Standing
+    ensures { λ r. ⌜ r ≡ standingOf (now (frame .entry)) ⌝ }
+{
+    match read::read(frame) {
+        Reading::Refused(_) => Standing::Loses,
+        Reading::Frame(f) => {
+            if f.hop == hop::LAST_HOP {
+                return Standing::Loses;
+            }
+            let precedence = f.precedence;
+            Standing::Stands(precedence, f.hop)
+        }
+    }
+}
+
+// The better of two standings, the first on a tie.
+pub fn winner(first: Standing, second: Standing) -> Winner
+    ensures { λ r. ⌜ r ≡ winnerOf first second ⌝ }
+{
+    match first {
+        Standing::Loses => match second {
+            Standing::Loses => Winner::Neither,
+            Standing::Stands(_, _) => Winner::Second,
+        },
+        Standing::Stands(p, h) => match second {
+            Standing::Loses => Winner::First,
+            Standing::Stands(q, k) => {
+                if order::key_precedes(q, k, p, h) {
+                    Winner::Second
+                } else {
+                    Winner::First
+                }
+            }
+        },
+    }
+}
+
+// The 13 precedence bytes of the better frame, where they stand; nothing of the first where both lose.
+pub fn better<'a>(a: &'a [u8], b: &'a [u8]) -> &'a [u8]
+    ensures { λ r. ⌜ lies r ≡ betterPartOf (a .entry) (b .entry) ⌝ }
+{
+    match winner(standing(a), standing(b)) {
+        Winner::Neither => &a[0..0],
+        Winner::First => &a[PRECEDENCE_START..PRECEDENCE_END],
+        Winner::Second => &b[PRECEDENCE_START..PRECEDENCE_END],
+    }
+}

@@ -1,0 +1,104 @@
+// The frame that a port sends for the chosen clock.
+ghost use mathlib.Core.Path.{_≡_};
+ghost use Prim.Native.Nat.{_<_};
+ghost use lib.ListN.{length};
+ghost use Rattle.samples.specs.Keep.{LawfulSamples};
+ghost use Rattle.relay.specs.Sent.{longestElapsed};
+ghost use Rattle.port.specs.Send.{echoTx, echoRx, frameOf, sendingOf, deliveredNo, deliveredBytes};
+use crate::Port;
+use crate::Sending;
+use choice::Candidate;
+use choice::Precedence;
+use frame::Fields;
+use frame::Mac;
+use frame::write;
+use relay::Sent;
+use relay::sending;
+use samples::Pair;
+use samples::Samples;
+use times::ErrorTime;
+use times::GrandTime;
+use times::LocalTime;
+
+// The neighbour's time in an echo, 0 where there is none.
+pub fn echo_tx(echo: Pair) -> LocalTime
+    ensures { λ r. ⌜ r ≡ echoTx echo ⌝ }
+{
+    match echo {
+        Pair::Unset => LocalTime(0),
+        Pair::Set(there, _) => there,
+    }
+}
+
+// The arrival here in an echo, 0 where there is none.
+pub fn echo_rx(echo: Pair) -> LocalTime
+    ensures { λ r. ⌜ r ≡ echoRx echo ⌝ }
+{
+    match echo {
+        Pair::Unset => LocalTime(0),
+        Pair::Set(_, here) => here,
+    }
+}
+
+// The fields of a frame for a clock with this precedence and held hop.
+pub fn fields(
+    mac: Mac,
+    precedence: Precedence,
+    hop: u8,
+    t: LocalTime,
+    grand: GrandTime,
+    error: ErrorTime,
+    port: Port,
+) -> Fields
+    ensures { λ r. ⌜ r ≡ frameOf mac precedence hop t grand error port ⌝ }
+{
+    let echo = port.echo;
+    Fields {
+        sa: mac,
+        precedence: precedence,
+        hop: hop,
+        count: port.next,
+        grand: grand,
+        local: t,
+        tx: echo_tx(echo),
+        rx: echo_rx(echo),
+        error: error,
+    }
+}
+
+// The frame that the port sends at t, read off the chosen clock's samples, or 10 to 13.
+pub fn composed(
+    choice: Candidate,
+    samples: Samples,
+    mac: Mac,
+    back: u64,
+    t: LocalTime,
+    port: Port,
+) -> Sending
+    requires { ⌜ LawfulSamples samples ⌝ }
+    requires { ⌜ back < longestElapsed ⌝ }
+    ensures { λ r. ⌜ r ≡ sendingOf choice samples mac back t port ⌝ }
+{
+    match choice {
+        Candidate::Nothing => Sending::Refused(refusals::NO_CLOCK),
+        Candidate::Clock(precedence, hop, _) => match sending::sent(samples, t, back) {
+            Sent::At(grand, error) => {
+                Sending::Frame(fields(mac, precedence, hop, t, grand, error, port))
+            }
+            Sent::Few => Sending::Refused(refusals::FEW_SAMPLES),
+            Sent::Late => Sending::Refused(refusals::TOO_LATE),
+            Sent::Beyond => Sending::Refused(refusals::BEYOND_RANGE),
+        },
+    }
+}
+
+// Fills the output with the frame and answers 0, or answers the refusal and the output stays.
+pub fn delivered(sending: Sending, out: &mut [u8]) -> u8
+    ensures { λ r. ⌜ r ≡ deliveredNo sending (length (now (out .entry))) ⌝ }
+    ensures { λ _. ⌜ now (out .exit) ≡ deliveredBytes sending (now (out .entry)) ⌝ }
+{
+    match sending {
+        Sending::Refused(refusal) => refusal,
+        Sending::Frame(f) => write::write(f, out),
+    }
+}
