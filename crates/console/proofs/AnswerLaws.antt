@@ -55,17 +55,9 @@ use Rattle.words.specs.declared.Rank.{Rank}
 use Rattle.words.specs.declared.Rank.the-variants.{Is as rank, Bad as noRank}
 use Rattle.words.specs.declared.Parts.{Parts}
 use Rattle.words.specs.declared.Parts.the-variants.{Are as parts, Bad as noParts}
-use Rattle.console.specs.Answer.{Answer, says, badText, badLine, doneSays, untouched, setupBy, linkedSays, linksBy, ownBy, receiveBy, ageBy, sentSays, sendBy, driftText, driftBy, readText, readBy, writeBy, pieceOf, betterBytes, betterBy, wantedOf, askedText, callOf, longestLine, formedOf, answerOf, Says}
-use Rattle.console.specs.declared.Answered.{Answered}
+use Rattle.answer.specs.Answer.{Answer, says, badText, badLine, doneSays, Says}
+use Rattle.console.specs.Answer.{untouched, setupBy, linkedSays, linksBy, ownBy, receiveBy, ageBy, sentSays, sendBy, driftText, driftBy, readText, readBy, writeBy, pieceOf, betterBytes, betterBy, wantedOf, askedText, callOf, longestLine, formedOf, answerOf}
 use Rattle.words.proofs.SaidLaws.{line-most}
-
--- ---- what is promised of one text is promised of its equal
-
-pub as-says : {want other : Answer} {got : Answered} {was left : List ℕ} → want ≡ other → Says want got was left → Says other got was left
-as-says {got = got} {was = was} {left = left} e s = subst (λ (w : Answer). Says w got was left) e s
-
-pub as-prints : {want other : List ℕ} {len : ℕ} {was left : List ℕ} → want ≡ other → Prints want len was left → Prints other len was left
-as-prints {len = len} {was = was} {left = left} e s = subst (λ (w : List ℕ). Prints w len was left) e s
 
 -- ---- a drift is a number
 

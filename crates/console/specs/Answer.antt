@@ -49,25 +49,7 @@ use Rattle.words.specs.declared.Rank.{Rank}
 use Rattle.words.specs.declared.Rank.the-variants.{Is as rank, Bad as noRank}
 use Rattle.words.specs.declared.Parts.{Parts}
 use Rattle.words.specs.declared.Parts.the-variants.{Are as parts, Bad as noParts}
-use Rattle.console.specs.declared.Answered.{Answered}
-
-pub record Answer : Type 0 where
-  pub next : Bridge
-  pub text : List ℕ
-
-abbrev pub says : Bridge → List ℕ → Answer
-says b t = record { next = b; text = t }
-
--- a line that has not the form of one
-abbrev pub badText : List ℕ
-badText = line1 14
-
-abbrev pub badLine : Bridge → Answer
-badLine b = says b badText
-
--- a call that answers a number
-abbrev pub doneSays : Done → Answer
-doneSays d = says (d .next) (line1 (d .answer))
+use Rattle.answer.specs.Answer.{Answer, says, badText, badLine, doneSays}
 
 -- an output before a call: n of 128 bytes A5
 abbrev pub untouched : ℕ → List ℕ
@@ -242,10 +224,3 @@ formedOf letter s = cond (ltb longestLine (length s)) false (eqb (countOf s) (wa
 -- the line whole
 unfoldable pub answerOf : Bridge → List ℕ → Answer
 answerOf b s = cond (formedOf (letterOf s) s) (callOf (letterOf s) b s) (badLine b)
-
--- ---- what a call promises
-
-pub record Says (want : Answer) (got : Answered) (was left : List ℕ) : Type 0 where
-  pub state : got .next ≡ want .next
-  pub prints : Prints (want .text) (got .len) was left
-  pub lawful : Lawful (got .next)

@@ -4,11 +4,11 @@ ghost use Prim.Native.Nat.{_≤_};
 ghost use lib.ListN.{length};
 ghost use Rattle.bridge.specs.State.{Lawful};
 ghost use Rattle.words.specs.Said.{longest};
-ghost use Rattle.console.specs.Answer.{badLine, doneSays, setupLine, linksLine, ownLine, receiveLine, ageLine, sendLine, Says};
-use crate::Answered;
+ghost use Rattle.answer.specs.Answer.{badLine, doneSays, Says};
+ghost use Rattle.console.specs.Answer.{setupLine, linksLine, ownLine, receiveLine, ageLine, sendLine};
 use crate::asking;
+use answer::Answered;
 use bridge::Bridge;
-use bridge::Done;
 use bridge::LinkCount;
 use words::Address;
 use words::Flag;
@@ -22,31 +22,6 @@ use words::reading;
 // The refusal of a mask with a bit beyond the ports.
 const OUT_OF_RANGE: u8 = 2;
 
-// A line that has not the form of one.
-fn refused(b: Bridge, out: &mut [u8]) -> Answered
-    requires { ⌜ Lawful b ⌝ }
-    requires { ⌜ longest ≤ length (now out) ⌝ }
-    ensures { λ r. ⌜ Says (badLine b) r (now (out .entry)) (now (out .exit)) ⌝ }
-{
-    Answered {
-        next: b,
-        len: printing::refused(out),
-    }
-}
-
-// A call that answers a number.
-fn done(d: Done, out: &mut [u8]) -> Answered
-    requires { ⌜ Lawful (d .next) ⌝ }
-    requires { ⌜ longest ≤ length (now out) ⌝ }
-    ensures { λ r. ⌜ Says (doneSays d) r (now (out .entry)) (now (out .exit)) ⌝ }
-{
-    let next = d.next;
-    Answered {
-        next: next,
-        len: printing::one(out, d.answer),
-    }
-}
-
 // `S n mac prec capable timeout back d1 .. d8`.
 pub fn setup(b: Bridge, text: &[u8], out: &mut [u8]) -> Answered
     requires { ⌜ Lawful b ⌝ }
@@ -54,28 +29,28 @@ pub fn setup(b: Bridge, text: &[u8], out: &mut [u8]) -> Answered
     ensures { λ r. ⌜ Says (setupLine b (now (text .entry))) r (now (out .entry)) (now (out .exit)) ⌝ }
 {
     let Octet::Is(n) = reading::octet(text, 1) else {
-        return refused(b, out);
+        return answer::refused(b, out);
     };
     let Address::Is(mac) = reading::address(text, 2) else {
-        return refused(b, out);
+        return answer::refused(b, out);
     };
     let Rank::Is(own) = reading::rank(text, 3) else {
-        return refused(b, out);
+        return answer::refused(b, out);
     };
     let Flag::Is(capable) = reading::flag(text, 4) else {
-        return refused(b, out);
+        return answer::refused(b, out);
     };
     let Number::Is(timeout) = reading::number_or(text, 5, bridge::DEFAULT_TIMEOUT) else {
-        return refused(b, out);
+        return answer::refused(b, out);
     };
     let Number::Is(back) = reading::number_or(text, 6, bridge::DEFAULT_BACK) else {
-        return refused(b, out);
+        return answer::refused(b, out);
     };
     if !reading::all_given(text, 7) {
-        return refused(b, out);
+        return answer::refused(b, out);
     }
     let settings = reading::settings(text, 7);
-    done(
+    answer::done(
         bridge::setup(n, mac, own, capable, timeout, back, settings),
         out,
     )
@@ -88,7 +63,7 @@ pub fn links(b: Bridge, text: &[u8], out: &mut [u8]) -> Answered
     ensures { λ r. ⌜ Says (linksLine b (now (text .entry))) r (now (out .entry)) (now (out .exit)) ⌝ }
 {
     let Octet::Is(mask) = reading::octet(text, 1) else {
-        return refused(b, out);
+        return answer::refused(b, out);
     };
     let linked = bridge::links(b, mask);
     let answer = linked.answer;
@@ -112,18 +87,18 @@ pub fn own_clock(b: Bridge, text: &[u8], out: &mut [u8]) -> Answered
     ensures { λ r. ⌜ Says (ownLine b (now (text .entry))) r (now (out .entry)) (now (out .exit)) ⌝ }
 {
     let Octet::Is(count) = reading::octet(text, 1) else {
-        return refused(b, out);
+        return answer::refused(b, out);
     };
     let Number::Is(seconds) = reading::number(text, 2) else {
-        return refused(b, out);
+        return answer::refused(b, out);
     };
     let Number::Is(fraction) = reading::number(text, 3) else {
-        return refused(b, out);
+        return answer::refused(b, out);
     };
     let Number::Is(at) = reading::number(text, 4) else {
-        return refused(b, out);
+        return answer::refused(b, out);
     };
-    done(bridge::own_clock(b, count, seconds, fraction, at), out)
+    answer::done(bridge::own_clock(b, count, seconds, fraction, at), out)
 }
 
 // `R port arrival frame`.
@@ -133,16 +108,16 @@ pub fn receive(b: Bridge, text: &[u8], out: &mut [u8]) -> Answered
     ensures { λ r. ⌜ Says (receiveLine b (now (text .entry))) r (now (out .entry)) (now (out .exit)) ⌝ }
 {
     let Octet::Is(port) = reading::octet(text, 1) else {
-        return refused(b, out);
+        return answer::refused(b, out);
     };
     let Number::Is(arrival) = reading::number(text, 2) else {
-        return refused(b, out);
+        return answer::refused(b, out);
     };
     let mut frame = [0u8; 128];
     let Size::Is(n) = reading::bytes(text, 3, &mut frame) else {
-        return refused(b, out);
+        return answer::refused(b, out);
     };
-    done(bridge::receive(b, port, &frame[..n], arrival), out)
+    answer::done(bridge::receive(b, port, &frame[..n], arrival), out)
 }
 
 // `A now`.
@@ -152,9 +127,9 @@ pub fn age(b: Bridge, text: &[u8], out: &mut [u8]) -> Answered
     ensures { λ r. ⌜ Says (ageLine b (now (text .entry))) r (now (out .entry)) (now (out .exit)) ⌝ }
 {
     let Number::Is(at) = reading::number(text, 1) else {
-        return refused(b, out);
+        return answer::refused(b, out);
     };
-    done(bridge::age(b, at), out)
+    answer::done(bridge::age(b, at), out)
 }
 
 // `T port t length`.
@@ -164,13 +139,13 @@ pub fn send(b: Bridge, text: &[u8], out: &mut [u8]) -> Answered
     ensures { λ r. ⌜ Says (sendLine b (now (text .entry))) r (now (out .entry)) (now (out .exit)) ⌝ }
 {
     let Octet::Is(port) = reading::octet(text, 1) else {
-        return refused(b, out);
+        return answer::refused(b, out);
     };
     let Number::Is(t) = reading::number(text, 2) else {
-        return refused(b, out);
+        return answer::refused(b, out);
     };
     let Size::Is(n) = reading::size(text, 3) else {
-        return refused(b, out);
+        return answer::refused(b, out);
     };
     let mut frame = [asking::UNTOUCHED; 128];
     let sent = bridge::send(b, port, t, &mut frame[..n]);

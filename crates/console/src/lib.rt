@@ -7,19 +7,15 @@ ghost use Prim.Native.Nat.{_≤_};
 ghost use lib.ListN.{length};
 ghost use Rattle.bridge.specs.State.{Lawful};
 ghost use Rattle.words.specs.Said.{longest, Prints};
-ghost use Rattle.console.specs.Answer.{wantedOf, formedOf, askedText, answerOf, Says};
+ghost use Rattle.answer.specs.Answer.{Says};
+ghost use Rattle.console.specs.Answer.{wantedOf, formedOf, askedText, answerOf};
+use answer::Answered;
 use bridge::Bridge;
 use words::cutting;
 use words::printing;
 
 // The longest line that can be one: B with two frames of 128 bytes.
 pub const LONGEST_LINE: usize = 515;
-
-// The state after a line, and the length of what is printed for it.
-pub struct Answered {
-    pub next: Bridge,
-    pub len: usize,
-}
 
 // How many fields a line with this letter has; 0 where no call has the letter.
 pub fn wanted(letter: u8) -> usize

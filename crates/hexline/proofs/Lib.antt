@@ -1,5 +1,3 @@
 pub mod DigitLaws
 pub mod SearchLaws
-pub mod LineLaws
 pub mod PrintLaws
-pub mod WholeLine

@@ -1,4 +1,3 @@
 pub mod Digit
 pub mod Search
-pub mod Line
 pub mod Print

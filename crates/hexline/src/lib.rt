@@ -1,5 +1,4 @@
-// Hexadecimal: digits, lines of 142 digits, and what is printed; and the search for a byte.
+// Hexadecimal: digits and what is printed; and the search for a byte.
 pub mod digits;
-pub mod lines;
 pub mod printing;
 pub mod searching;

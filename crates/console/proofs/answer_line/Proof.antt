@@ -2,7 +2,8 @@
 use mathlib.Core.Path.{_≡_, refl, sym, ap, _∙_}
 use Prim.Native.Nat.{ℕ}
 use Rattle.console.specs.Answer.{formedOf, callOf, answerOf}
-use Rattle.console.proofs.AnswerLaws.{as-says, answer-bad, answer-call, call-rest}
+use Rattle.answer.proofs.AnswerLaws.{as-says}
+use Rattle.console.proofs.AnswerLaws.{answer-bad, answer-call, call-rest}
 use borrow.Author.Needs.{needs}
 use borrow.Author.Tests.{not-true, not-false}
 use Rattle.console.proofs.answer_line.Statement.{statement}

@@ -2,7 +2,8 @@
 use mathlib.Core.Path.{sym, ap}
 use Prim.Native.Nat.{ℕ}
 use Rattle.console.specs.Answer.{askedText}
-use Rattle.console.proofs.AnswerLaws.{as-prints, asked-rest}
+use Rattle.answer.proofs.AnswerLaws.{as-prints}
+use Rattle.console.proofs.AnswerLaws.{asked-rest}
 use borrow.Author.Needs.{needs}
 use Rattle.console.proofs.asked.Statement.{statement}
 use Rattle.console.proofs.asked.Tie as tie

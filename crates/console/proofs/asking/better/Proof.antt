@@ -7,7 +7,8 @@ use lib.Seq.{length-take-le}
 use Rattle.words.specs.Text.{fieldOf}
 use Rattle.console.specs.Answer.{betterLine}
 use Rattle.words.proofs.ValueLaws.{bytes-known, content-taken}
-use Rattle.console.proofs.AnswerLaws.{as-prints, better-bad1, better-bad2, better-good, better-bytes, better-short, rest-said}
+use Rattle.answer.proofs.AnswerLaws.{as-prints}
+use Rattle.console.proofs.AnswerLaws.{better-bad1, better-bad2, better-good, better-bytes, better-short, rest-said}
 use borrow.Author.Needs.{needs}
 use Rattle.console.proofs.asking.better.Statement.{statement}
 use Rattle.console.proofs.asking.better.Tie as tie

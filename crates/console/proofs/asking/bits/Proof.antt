@@ -1,7 +1,7 @@
 -- Eight bytes.
 use mathlib.Core.Path.{ap}
 use Rattle.words.specs.Said.{lineWith}
-use Rattle.console.proofs.AnswerLaws.{as-prints}
+use Rattle.answer.proofs.AnswerLaws.{as-prints}
 use borrow.Author.Needs.{needs}
 use Rattle.console.proofs.asking.bits.Statement.{statement}
 use Rattle.console.proofs.asking.bits.Tie as tie

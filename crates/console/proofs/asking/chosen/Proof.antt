@@ -1,7 +1,7 @@
 -- By the choice.
 use mathlib.Core.Path.{sym, ap, _∙_}
 use Rattle.console.specs.Answer.{chosenText}
-use Rattle.console.proofs.AnswerLaws.{as-prints}
+use Rattle.answer.proofs.AnswerLaws.{as-prints}
 use borrow.Author.Needs.{needs}
 use Rattle.console.proofs.asking.chosen.Statement.{statement}
 use Rattle.console.proofs.asking.chosen.Tie as tie

@@ -1,7 +1,8 @@
 -- By the port, and by the drift.
 use mathlib.Core.Path.{sym, ap, _∙_}
 use Rattle.console.specs.Answer.{driftText, driftLine}
-use Rattle.console.proofs.AnswerLaws.{as-prints, drift-bad1, drift-good, drift-number}
+use Rattle.answer.proofs.AnswerLaws.{as-prints}
+use Rattle.console.proofs.AnswerLaws.{drift-bad1, drift-good, drift-number}
 use borrow.Author.Needs.{needs}
 use Rattle.console.proofs.asking.drift.Statement.{statement}
 use Rattle.console.proofs.asking.drift.Tie as tie

@@ -7,7 +7,8 @@ use lib.Seq.{length-take-le}
 use Rattle.words.specs.Text.{fieldOf}
 use Rattle.console.specs.Answer.{readText, readLine}
 use Rattle.words.proofs.ValueLaws.{bytes-known, content-taken}
-use Rattle.console.proofs.AnswerLaws.{as-prints, read-bad1, read-good}
+use Rattle.answer.proofs.AnswerLaws.{as-prints}
+use Rattle.console.proofs.AnswerLaws.{read-bad1, read-good}
 use borrow.Author.Needs.{needs}
 use Rattle.console.proofs.asking.read.Statement.{statement}
 use Rattle.console.proofs.asking.read.Tie as tie

@@ -10,7 +10,8 @@ use Rattle.words.specs.Said.{lineWith}
 use Rattle.console.specs.Answer.{writeLine}
 use Rattle.words.proofs.ValueLaws.{length-most}
 use Rattle.words.proofs.SaidLaws.{back-size, back-taken}
-use Rattle.console.proofs.AnswerLaws.{as-prints, write-bad1, write-bad2, write-good}
+use Rattle.answer.proofs.AnswerLaws.{as-prints}
+use Rattle.console.proofs.AnswerLaws.{write-bad1, write-bad2, write-good}
 use borrow.Author.Needs.{needs}
 use Rattle.console.proofs.asking.write.Statement.{statement}
 use Rattle.console.proofs.asking.write.Tie as tie

@@ -1,7 +1,8 @@
 -- By the number.
 use mathlib.Core.Path.{sym, _∙_}
 use Rattle.console.specs.Answer.{ageLine}
-use Rattle.console.proofs.AnswerLaws.{as-says, age-bad1, age-good}
+use Rattle.answer.proofs.AnswerLaws.{as-says}
+use Rattle.console.proofs.AnswerLaws.{age-bad1, age-good}
 use borrow.Author.Needs.{needs}
 use Rattle.console.proofs.changing.age.Statement.{statement}
 use Rattle.console.proofs.changing.age.Tie as tie

@@ -1,7 +1,8 @@
 -- By the mask, and by the answer.
 use mathlib.Core.Path.{refl, sym, _∙_}
 use Rattle.console.specs.Answer.{linksLine}
-use Rattle.console.proofs.AnswerLaws.{as-says, links-bad1, links-beyond, links-up}
+use Rattle.answer.proofs.AnswerLaws.{as-says}
+use Rattle.console.proofs.AnswerLaws.{links-bad1, links-beyond, links-up}
 use borrow.Author.Needs.{needs}
 use Rattle.console.proofs.changing.links.Statement.{statement}
 use Rattle.console.proofs.changing.links.Tie as tie

@@ -1,7 +1,8 @@
 -- By the first number that can't be read.
 use mathlib.Core.Path.{sym, _∙_}
 use Rattle.console.specs.Answer.{ownLine}
-use Rattle.console.proofs.AnswerLaws.{as-says, own-bad1, own-bad2, own-bad3, own-bad4, own-good}
+use Rattle.answer.proofs.AnswerLaws.{as-says}
+use Rattle.console.proofs.AnswerLaws.{own-bad1, own-bad2, own-bad3, own-bad4, own-good}
 use borrow.Author.Needs.{needs}
 use Rattle.console.proofs.changing.own_clock.Statement.{statement}
 use Rattle.console.proofs.changing.own_clock.Tie as tie

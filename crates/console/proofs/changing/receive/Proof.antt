@@ -7,7 +7,8 @@ use lib.Seq.{length-take-le}
 use Rattle.words.specs.Text.{fieldOf}
 use Rattle.console.specs.Answer.{receiveLine}
 use Rattle.words.proofs.ValueLaws.{bytes-known, content-taken}
-use Rattle.console.proofs.AnswerLaws.{as-says, receive-bad1, receive-bad2, receive-bad3, receive-good}
+use Rattle.answer.proofs.AnswerLaws.{as-says}
+use Rattle.console.proofs.AnswerLaws.{receive-bad1, receive-bad2, receive-bad3, receive-good}
 use borrow.Author.Needs.{needs}
 use Rattle.console.proofs.changing.receive.Statement.{statement}
 use Rattle.console.proofs.changing.receive.Tie as tie

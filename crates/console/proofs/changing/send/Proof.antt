@@ -10,7 +10,8 @@ use Rattle.words.specs.Said.{lineWith}
 use Rattle.console.specs.Answer.{sendLine}
 use Rattle.words.proofs.ValueLaws.{length-most}
 use Rattle.words.proofs.SaidLaws.{back-size, back-taken}
-use Rattle.console.proofs.AnswerLaws.{as-says, as-prints, send-bad1, send-bad2, send-bad3, send-good}
+use Rattle.answer.proofs.AnswerLaws.{as-says, as-prints}
+use Rattle.console.proofs.AnswerLaws.{send-bad1, send-bad2, send-bad3, send-good}
 use borrow.Author.Needs.{needs}
 use Rattle.console.proofs.changing.send.Statement.{statement}
 use Rattle.console.proofs.changing.send.Tie as tie

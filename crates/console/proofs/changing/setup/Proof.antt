@@ -2,7 +2,8 @@
 use mathlib.Core.Path.{sym, _∙_}
 use borrow.Author.Tests.{not-true, not-false}
 use Rattle.console.specs.Answer.{setupLine}
-use Rattle.console.proofs.AnswerLaws.{as-says, setup-bad1, setup-bad2, setup-bad3, setup-bad4, setup-bad5, setup-bad6, setup-bad7, setup-good}
+use Rattle.answer.proofs.AnswerLaws.{as-says}
+use Rattle.console.proofs.AnswerLaws.{setup-bad1, setup-bad2, setup-bad3, setup-bad4, setup-bad5, setup-bad6, setup-bad7, setup-good}
 use borrow.Author.Needs.{needs}
 use Rattle.console.proofs.changing.setup.Statement.{statement}
 use Rattle.console.proofs.changing.setup.Tie as tie

@@ -1,0 +1,132 @@
+// The lines of a capture: a port, an arrival and a frame each; printed are the bridge's answer and the clock that is chosen then.
+ghost use mathlib.Core.Path.{_≡_};
+ghost use mathlib.Core.Bool.{true};
+ghost use Prim.Native.Nat.{_≤_};
+ghost use lib.ListN.{length};
+ghost use Rattle.bridge.specs.State.{Lawful};
+ghost use Rattle.hexline.specs.Print.{threeOf};
+ghost use Rattle.words.specs.Said.{longest, Prints};
+ghost use Rattle.answer.specs.Answer.{Says};
+ghost use Rattle.capture.specs.Capture.{isLine, startOf, toldOf, receivedOf, listedOf};
+use answer::Answered;
+use bridge::Bridge;
+use bridge::Done;
+use choice::Candidate;
+use choice::Precedence;
+use frame::Mac;
+use hexline::digits;
+use hexline::printing;
+
+// The listing's bridge: two ports, both linked.
+const PORTS: u8 = 2;
+
+const BOTH_LINKED: u8 = 3;
+
+// What is printed for a clock that there isn't.
+const NOTHING: u8 = 255;
+
+// The digits of a line.
+const LINE_DIGITS: usize = 142;
+
+// Where the parts of a line's bytes start, and how many the arrival has.
+const PORT_PLACE: usize = 0;
+
+const ARRIVAL_PLACE: usize = 1;
+
+const ARRIVAL_BYTES: usize = 6;
+
+const FRAME_PLACE: usize = 7;
+
+// The length of what is printed.
+const PRINTED: usize = 9;
+
+// The bridge before the first line.
+pub fn start() -> Bridge
+    ensures { λ r. ⌜ r ≡ startOf ⌝ }
+    ensures { λ r. ⌜ Lawful r ⌝ }
+{
+    let nobody = Mac(0, 0, 0, 0, 0, 0);
+    let least = Precedence {
+        priority1: 0,
+        source: 0,
+        variance: 0,
+        priority2: 0,
+        clock: 0,
+    };
+    let first = bridge::setup(
+        PORTS,
+        nobody,
+        least,
+        false,
+        bridge::DEFAULT_TIMEOUT,
+        bridge::DEFAULT_BACK,
+        table::records::measured_settings(),
+    );
+    let down = first.next;
+    let linked = bridge::links(down, BOTH_LINKED);
+    linked.next
+}
+
+// Prints three bytes.
+fn three(out: &mut [u8], a: u8, b: u8, c: u8) -> usize
+    requires { ⌜ longest ≤ length (now out) ⌝ }
+    ensures { λ r. ⌜ Prints (threeOf a b c) r (now (out .entry)) (now (out .exit)) ⌝ }
+{
+    printing::put_three(&mut out[..PRINTED], a, b, c);
+    PRINTED
+}
+
+// Prints an answer with the clock that is chosen now.
+fn told(b: Bridge, answer: u8, out: &mut [u8]) -> Answered
+    requires { ⌜ Lawful b ⌝ }
+    requires { ⌜ longest ≤ length (now out) ⌝ }
+    ensures { λ r. ⌜ Says (toldOf b answer) r (now (out .entry)) (now (out .exit)) ⌝ }
+{
+    match bridge::chosen(b) {
+        Candidate::Nothing => Answered {
+            next: b,
+            len: three(out, answer, NOTHING, NOTHING),
+        },
+        Candidate::Clock(_, hop, port) => Answered {
+            next: b,
+            len: three(out, answer, port, hop),
+        },
+    }
+}
+
+// Whether a text is 142 digits.
+fn is_line(text: &[u8]) -> bool
+    ensures { λ r. ⌜ r ≡ isLine (now (text .entry)) ⌝ }
+{
+    if text.len() == LINE_DIGITS {
+        return digits::all(text);
+    }
+    false
+}
+
+// What the bridge makes of a line.
+fn received(b: Bridge, text: &[u8]) -> Done
+    requires { ⌜ Lawful b ⌝ }
+    requires { ⌜ isLine (now text) ≡ true ⌝ }
+    ensures { λ r. ⌜ r ≡ receivedOf b (now (text .entry)) ⌝ }
+    ensures { λ r. ⌜ Lawful (r .next) ⌝ }
+{
+    let mut line = [0u8; 71];
+    digits::bytes(text, &mut line);
+    let arrival = numbers::digits::number_at(&line, ARRIVAL_PLACE, ARRIVAL_BYTES);
+    bridge::receive(b, line[PORT_PLACE], &line[FRAME_PLACE..], arrival)
+}
+
+// The state after a line, and what is printed for it in out.
+pub fn answer_line(b: Bridge, text: &[u8], out: &mut [u8]) -> Answered
+    requires { ⌜ Lawful b ⌝ }
+    requires { ⌜ longest ≤ length (now out) ⌝ }
+    ensures { λ r. ⌜ Says (listedOf b (now (text .entry))) r (now (out .entry)) (now (out .exit)) ⌝ }
+{
+    if !is_line(text) {
+        return told(b, refusals::BAD_LINE, out);
+    }
+    let done = received(b, text);
+    let next = done.next;
+    told(next, done.answer, out)
+}

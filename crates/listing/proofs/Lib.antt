@@ -1,2 +1,0 @@
-pub mod ListingLaws
-pub mod FedLaws

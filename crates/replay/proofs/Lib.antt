@@ -1,4 +1,0 @@
-pub mod ReplayLaws
-pub mod KeptLine
-pub mod FedLaws
-pub mod TwoReads
