@@ -2,11 +2,11 @@
 use Prim.Native.Nat.{ℕ}
 use mathlib.Core.Path.{_≡_}
 use mathlib.Core.List.{List}
-use Rattle.refusals.specs.Refusals.{badLine as badNumber}
 use Rattle.bridge.specs.State.{Lawful}
 use Rattle.bridge.specs.declared.Bridge.{Bridge}
 use Rattle.bridge.specs.declared.Done.{Done}
-use Rattle.words.specs.Said.{line1, Prints}
+use Rattle.refusals.specs.Refusals as refusal
+use Rattle.columns.specs.Columns.{line1, Prints}
 use Rattle.answer.specs.declared.Answered.{Answered}
 
 pub record Answer : Type 0 where
@@ -18,7 +18,7 @@ says b t = record { next = b; text = t }
 
 -- a line that has not the form of one
 abbrev pub badText : List ℕ
-badText = line1 badNumber
+badText = line1 refusal.badLine
 
 abbrev pub badLine : Bridge → Answer
 badLine b = says b badText
