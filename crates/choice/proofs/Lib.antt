@@ -1,2 +1,3 @@
 pub mod RankLaws
 pub mod HopLaws
+pub mod ShownLaws

@@ -33,3 +33,15 @@ betterOf (Clock p h i) (Clock q k j) = cond (ltb (rankOf q k j) (rankOf p h i)) 
 unfoldable pub chosenHop : Candidate → ℕ
 chosenHop Nothing = lastHop
 chosenHop (Clock precedence hop port) = hop
+
+-- a choice as it is shown, by its port and its held hop: 255 and 255 where there is none
+abbrev pub noneShown : ℕ
+noneShown = 255
+
+unfoldable pub shownPort : Candidate → ℕ
+shownPort Nothing = noneShown
+shownPort (Clock precedence hop port) = port
+
+unfoldable pub shownHop : Candidate → ℕ
+shownHop Nothing = noneShown
+shownHop (Clock precedence hop port) = hop

@@ -1,12 +1,15 @@
 // Candidates for the choice, and the better of two of them.
 ghost use mathlib.Core.Path.{_≡_};
 ghost use lib.Dec.{ltb};
-ghost use Rattle.choice.specs.Choose.{rankOf, candidateOf, ownCandidate, betterOf, chosenHop};
+ghost use Rattle.choice.specs.Choose.{rankOf, candidateOf, ownCandidate, betterOf, chosenHop, shownPort, shownHop};
 use crate::Announcement;
 use crate::Candidate;
 use crate::Precedence;
 use crate::hop;
 use crate::order;
+
+// What is shown where no clock is chosen.
+const NONE_SHOWN: u8 = 255;
 
 // The candidate of the port with this number, by its announcement.
 pub fn candidate(announcement: Announcement, number: u8) -> Candidate
@@ -61,6 +64,26 @@ pub fn chosen_hop(choice: Candidate) -> u8
 {
     match choice {
         Candidate::Nothing => hop::LAST_HOP,
+        Candidate::Clock(_, hop, _) => hop,
+    }
+}
+
+// The port of a choice, as it is shown.
+pub fn shown_port(choice: Candidate) -> u8
+    ensures { λ r. ⌜ r ≡ shownPort choice ⌝ }
+{
+    match choice {
+        Candidate::Nothing => NONE_SHOWN,
+        Candidate::Clock(_, _, port) => port,
+    }
+}
+
+// The held hop of a choice, as it is shown.
+pub fn shown_hop(choice: Candidate) -> u8
+    ensures { λ r. ⌜ r ≡ shownHop choice ⌝ }
+{
+    match choice {
+        Candidate::Nothing => NONE_SHOWN,
         Candidate::Clock(_, hop, _) => hop,
     }
 }

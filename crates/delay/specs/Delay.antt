@@ -35,7 +35,7 @@ linkDelayOf (Fixed n) rate local p tx rx = Is n
 linkDelayOf Measured rate local p tx rx =
     cond (eqb (tx .0) 0 && eqb (rx .0) 0) (Is 0) (measuredOf rate (sinceOf p tx) (sinceOf local rx))
 
--- the refusal's number
+-- document 01's number of a link delay, or of one that is too long
 abbrev pub delayNo : Delay → ℕ
 delayNo (Is n) = done
 delayNo TooLong = delayTooLong

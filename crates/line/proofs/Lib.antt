@@ -1,3 +1,4 @@
 pub mod Bound
+pub mod Chain
 pub mod SentLaws
 pub mod PpmLaws

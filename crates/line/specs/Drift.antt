@@ -1,5 +1,6 @@
 -- Drift in parts per million.
 use mathlib.Core.Bool.{not}
+use mathlib.Core.Option.{Option, none, some}
 use Prim.Native.Nat.{ℕ, _*_}
 use lib.IntN.{ℤ, natAbs}
 use lib.Signed.{nonNeg}
@@ -28,8 +29,13 @@ driftThrough (Both a b) = PartsPerMillion (ppmOf (rateBetween a b))
 unfoldable pub driftOf : Samples → Drift
 driftOf samples = driftThrough (endsOf samples)
 
--- the refusal's number
+-- document 01's number of an answer to Drift, and the reading that it carries: none, or parts per million
 abbrev pub driftNo : Drift → ℕ
 driftNo NoReading = done
 driftNo (PartsPerMillion x) = done
 driftNo Refused = outOfRange
+
+abbrev pub driftReading : Drift → Option Float
+driftReading NoReading = none
+driftReading (PartsPerMillion x) = some x
+driftReading Refused = none

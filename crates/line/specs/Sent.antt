@@ -44,7 +44,7 @@ sentThrough (Both a b) t back =
 unfoldable pub sentOf : Samples → LocalTime → ℕ → Sent
 sentOf samples t back = sentThrough (endsOf samples) t back
 
--- the refusal's number
+-- document 01's number of a sent time, or of why there is none
 abbrev pub sentNo : Sent → ℕ
 sentNo (At g e) = done
 sentNo Few = fewSamples

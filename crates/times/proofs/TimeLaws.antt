@@ -1,12 +1,13 @@
 -- Laws of local and grand time: a difference lies on the circle, and a grand time and the moment of its units.
 use mathlib.Core.Path.{_≡_, refl, sym, ap, _∙_}
 use Prim.Native.Nat.{ℕ, zero, suc, _+_, _-_, _/_, _%_, _^_, _<_, _≤_}
-use native.Mathlib.Nat.{add-mod, mod-lt}
+use native.Mathlib.Nat.{add-mod, add-mod-right, mod-lt, mod-eq-of-lt, mod-eq-sub-mod, mod-mod-of-dvd, dvd-of-mod-eq-zero, lt-of-not-le}
+use native.Mathlib.Decide.{decLe}
 use native.Mathlib.Omega.{arith}
 use borrow.Author.Tests.{lt-ltb, le-ltb, ltb-true, ltb-false}
 use lib.Dec.{lit<, ltb}
 use lib.IntN.{ℤ, pos, negsuc, natAbs, _-ℤ_, pos-ne-negsuc}
-use Rattle.times.specs.Times.{circle, second, grandEnd, sinceOf, units, grandOf, InRange, momentOf}
+use Rattle.times.specs.Times.{circle, second, grandEnd, aroundOf, sinceOf, units, grandOf, InRange, momentOf, nextCount}
 use Rattle.times.specs.declared.LocalTime.{LocalTime}
 use Rattle.times.specs.declared.GrandTime.{GrandTime}
 use Rattle.times.specs.declared.Moment.{Moment}
@@ -18,21 +19,29 @@ pub since-lt : (a b : LocalTime) → sinceOf a b < circle
 unfolding sinceOf
 since-lt a b = omega arith
 
--- what the machine's wrapped difference, reduced to the circle, is
-pub since-is : (a b : LocalTime) (w : ℕ) → (w + b .0) % 2 ^ 64 ≡ a .0 → w % circle ≡ sinceOf a b
-unfolding sinceOf
-since-is a b w e = round (w % circle) (b .0 % circle) (mod-lt w (lit< tt)) (mod-lt (b .0) (lit< tt)) ∙ ap (λ (n : ℕ). (n + circle - b .0 % circle) % circle) (sym on-circle)
+-- the machine's wrapped difference, reduced to a circle that divides the machine's, is the difference round that circle
+pub around-is : (a b n w : ℕ) → 0 < n → 2 ^ 64 % n ≡ 0 → (w + b) % 2 ^ 64 ≡ a → w % n ≡ aroundOf a b n
+around-is a b n w h d e = round (w % n) (b % n) (mod-lt w h) (mod-lt b h) ∙ ap (λ (x : ℕ). (x + n - b % n) % n) (sym on-circle)
   where
     -- x, y further round the circle and back by y
-    round : (x y : ℕ) → x < circle → y < circle → x ≡ ((x + y) % circle + circle - y) % circle
-    round x y h k = omega arith
+    round : (x y : ℕ) → x < n → y < n → x ≡ ((x + y) % n + n - y) % n
+    round x y k l = go (decLe n (x + y))
+      where
+        go : Dec (n ≤ x + y) → x ≡ ((x + y) % n + n - y) % n
+        go (yes o) =
+            let s : x + y - n < n = omega arith in
+            let t : x + y - n + n - y ≡ x = omega arith in
+            rw (mod-eq-sub-mod o, mod-eq-of-lt s, t, mod-eq-of-lt k)
+        go (no o) =
+            let t : x + y + n - y ≡ x + n = omega arith in
+            rw (mod-eq-of-lt (lt-of-not-le o), t, add-mod-right x n, mod-eq-of-lt k)
 
-    -- the machine's circle is a multiple of this one
-    within : (n : ℕ) → n % 2 ^ 64 % circle ≡ n % circle
-    within n = omega arith
+    on-circle : a % n ≡ (w % n + b % n) % n
+    on-circle = ap (λ (x : ℕ). x % n) (sym e) ∙ mod-mod-of-dvd n (w + b) (dvd-of-mod-eq-zero n d) ∙ add-mod w b n
 
-    on-circle : a .0 % circle ≡ (w % circle + b .0 % circle) % circle
-    on-circle = ap (λ (n : ℕ). n % circle) (sym e) ∙ within (w + b .0) ∙ add-mod w (b .0) circle
+-- the frameCount that follows c is c less the last one, round their circle
+pub count-is : (c : ℕ) → aroundOf c 255 256 ≡ nextCount c
+count-is c = omega arith
 
 -- the grand time of so many units
 pub grand-is : (g : GrandTime) (n : ℕ) → g .1 < second → units g ≡ n → g ≡ grandOf n

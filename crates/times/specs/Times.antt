@@ -25,9 +25,13 @@ second = 2 ^ 40
 abbrev pub grandEnd : ℕ
 grandEnd = 2 ^ 80
 
+-- a - b, modulo n: the way from b to a round a circle of n
+abbrev pub aroundOf : ℕ → ℕ → ℕ → ℕ
+aroundOf a b n = (a % n + n - b % n) % n
+
 -- a - b, modulo 2^48
 unfoldable pub sinceOf : LocalTime → LocalTime → ℕ
-sinceOf a b = (a .0 % circle + circle - b .0 % circle) % circle
+sinceOf a b = aroundOf (a .0) (b .0) circle
 
 -- the local time that lies n before t
 abbrev pub earlierBy : LocalTime → ℕ → LocalTime
