@@ -2,7 +2,7 @@
 use mathlib.Core.Path.{_≡_, subst}
 use mathlib.Core.List.{List}
 use Prim.Native.Nat.{ℕ}
-use Rattle.words.specs.Said.{Prints}
+use Rattle.columns.specs.Columns.{Prints}
 use Rattle.answer.specs.Answer.{Answer, Says}
 use Rattle.answer.specs.declared.Answered.{Answered}
 

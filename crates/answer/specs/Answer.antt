@@ -5,7 +5,8 @@ use mathlib.Core.List.{List}
 use Rattle.bridge.specs.State.{Lawful}
 use Rattle.bridge.specs.declared.Bridge.{Bridge}
 use Rattle.bridge.specs.declared.Done.{Done}
-use Rattle.words.specs.Said.{line1, Prints}
+use Rattle.refusals.specs.Refusals as refusal
+use Rattle.columns.specs.Columns.{line1, Prints}
 use Rattle.answer.specs.declared.Answered.{Answered}
 
 pub record Answer : Type 0 where
@@ -17,7 +18,7 @@ says b t = record { next = b; text = t }
 
 -- a line that has not the form of one
 abbrev pub badText : List ℕ
-badText = line1 14
+badText = line1 refusal.badLine
 
 abbrev pub badLine : Bridge → Answer
 badLine b = says b badText

@@ -2,11 +2,10 @@
 ghost use Prim.Native.Nat.{_≤_};
 ghost use lib.ListN.{length};
 ghost use Rattle.bridge.specs.State.{Lawful};
-ghost use Rattle.words.specs.Said.{longest};
+ghost use Rattle.columns.specs.Columns.{longestAnswer};
 ghost use Rattle.answer.specs.Answer.{badLine, doneSays, Says};
 use bridge::Bridge;
 use bridge::Done;
-use words::printing;
 
 // The state after a line, and the length of what is printed for it.
 pub struct Answered {
@@ -17,24 +16,24 @@ pub struct Answered {
 // A line that has not the form of one.
 pub fn refused(b: Bridge, out: &mut [u8]) -> Answered
     requires { ⌜ Lawful b ⌝ }
-    requires { ⌜ longest ≤ length (now out) ⌝ }
+    requires { ⌜ longestAnswer ≤ length (now out) ⌝ }
     ensures { λ r. ⌜ Says (badLine b) r (now (out .entry)) (now (out .exit)) ⌝ }
 {
     Answered {
         next: b,
-        len: printing::refused(out),
+        len: columns::one(out, refusals::BAD_LINE),
     }
 }
 
 // A call that answers a number.
 pub fn done(d: Done, out: &mut [u8]) -> Answered
     requires { ⌜ Lawful (d .next) ⌝ }
-    requires { ⌜ longest ≤ length (now out) ⌝ }
+    requires { ⌜ longestAnswer ≤ length (now out) ⌝ }
     ensures { λ r. ⌜ Says (doneSays d) r (now (out .entry)) (now (out .exit)) ⌝ }
 {
     let next = d.next;
     Answered {
         next: next,
-        len: printing::one(out, d.answer),
+        len: columns::one(out, d.answer),
     }
 }
