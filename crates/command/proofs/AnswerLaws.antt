@@ -1,8 +1,8 @@
 -- Laws of what a line is answered with: a drift is a number, and the better frame's bytes.
-use mathlib.Core.Path.{_≡_, refl, ap, _∙_}
-use mathlib.Core.Bool.{Bool, true, false, not, cond}
-use mathlib.Core.List.{List}
-use Prim.Native.Nat.{ℕ, zero, suc, _+_, _*_, _^_, _≤_}
+use mathlib.Core.Path.{_≡_, refl, sym, ap, _∙_}
+use mathlib.Core.Bool.{Bool, true, false, not, cond, true≢false}
+use mathlib.Core.List.{List, [], _∷_}
+use Prim.Native.Nat.{ℕ, zero, suc, _+_, _*_, _^_, _<_, _≤_}
 use native.Mathlib.Omega.{arith}
 use lib.ListN.{length, length-take}
 use lib.Dec.{T, ltb}
@@ -21,7 +21,8 @@ use Rattle.table.specs.Table.{samplesAt}
 use Rattle.bridge.specs.Drift.{driftAt}
 use Rattle.bridge.specs.declared.Bridge.{Bridge}
 use Rattle.columns.specs.Columns.{bytesLine}
-use Rattle.command.specs.Answer.{pieceOf, betterText}
+use Rattle.fields.specs.declared.Form.{Form}
+use Rattle.command.specs.Answer.{pieceOf, betterText, callOf, isLine, letterOf, formIn, answerOf}
 
 -- ---- a drift is a number
 
@@ -86,3 +87,14 @@ module _ (r a b : RefT (List ℕ)) (e : lies r ≡ betterPartOf a b) where
 
   pub better-short : length (now r) ≤ precedenceBytes
   better-short = rw same (piece-small (winnerOf (standingOf (now a)) (standingOf (now b))) (now a) (now b))
+
+-- ---- a line that has a letter and its form
+
+pub line-some : (s : List ℕ) → isLine s ≡ true → 0 < length s
+unfolding isLine
+line-some [] e = absurd (true≢false (sym e))
+line-some (x ∷ s) e = omega arith
+
+pub answer-call : (b : Bridge) (s : List ℕ) {f : Form} → isLine s ≡ true → f ≡ formIn s → f .good ≡ true → callOf (letterOf s) b f ≡ answerOf b s
+unfolding answerOf
+answer-call b s l e g = ap (callOf (letterOf s) b) e ∙ rw (l, sym (ap (λ (x : Form). x .good) e) ∙ g) refl

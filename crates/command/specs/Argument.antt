@@ -7,6 +7,7 @@ use lib.Dec.{eqb}
 use Rattle.numbers.specs.Digits.{numberAt}
 use Rattle.relay.specs.declared.DelaySetting.{DelaySetting}
 use Rattle.relay.specs.declared.DelaySetting.the-variants.{Measured, Fixed}
+use Rattle.times.specs.declared.ErrorTime.{ErrorTime}
 use Rattle.choice.specs.declared.Precedence.{Precedence}
 use Rattle.frame.specs.declared.Mac.{Mac}
 use Rattle.frame.specs.declared.Fields.{Fields}
@@ -58,6 +59,9 @@ precedenceIn s = record {
   clock = numberAt s 11 8;
 }
 
+abbrev pub errorIn : List ℕ → ErrorTime
+errorIn s = record { 0 = numberAt s 19 4 }
+
 -- what W is to write
 unfoldable pub fieldsIn : Form → Fields
 fieldsIn f = record {
@@ -69,7 +73,7 @@ fieldsIn f = record {
   local = record { 0 = numberIn f 6 };
   tx = record { 0 = numberIn f 7 };
   rx = record { 0 = numberIn f 8 };
-  error = record { 0 = numberAt (f .bytes) 19 4 };
+  error = errorIn (f .bytes);
 }
 
 -- an output before a call: n of 128 bytes A5

@@ -2,7 +2,7 @@
 ghost use mathlib.Core.Path.{_≡_};
 ghost use Prim.Native.Nat.{_<_};
 ghost use Rattle.fields.specs.Form.{mostFields};
-ghost use Rattle.command.specs.Argument.{byteIn, sizeIn, numberOr, settingIn, settingsIn, macIn, precedenceIn, fieldsIn};
+ghost use Rattle.command.specs.Argument.{byteIn, sizeIn, numberOr, settingIn, settingsIn, macIn, precedenceIn, errorIn, fieldsIn};
 use choice::Precedence;
 use fields::Form;
 use frame::Fields;
@@ -121,6 +121,13 @@ pub fn precedence(b: [u8; 256]) -> Precedence
     }
 }
 
+// The errorTime after both.
+fn error(b: [u8; 256]) -> ErrorTime
+    ensures { λ r. ⌜ r ≡ errorIn b ⌝ }
+{
+    ErrorTime(digits::number_at(&b, ERROR, ERROR_BYTES) as u32)
+}
+
 // The fields of a frame to be written.
 pub fn frame_fields(form: Form) -> Fields
     ensures { λ r. ⌜ r ≡ fieldsIn form ⌝ }
@@ -135,6 +142,6 @@ pub fn frame_fields(form: Form) -> Fields
         local: LocalTime(form.numbers[6]),
         tx: LocalTime(form.numbers[7]),
         rx: LocalTime(form.numbers[8]),
-        error: ErrorTime(digits::number_at(&bytes, ERROR, ERROR_BYTES) as u32),
+        error: error(bytes),
     }
 }

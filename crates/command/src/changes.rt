@@ -3,6 +3,7 @@ ghost use mathlib.Core.Path.{_≡_};
 ghost use Prim.Native.Nat.{_≤_};
 ghost use lib.ListN.{length, take};
 ghost use Rattle.fields.specs.Field.{mostLength};
+ghost use Rattle.fields.specs.Form.{mostBytes};
 ghost use Rattle.columns.specs.Columns.{longestAnswer, Prints};
 ghost use Rattle.bridge.specs.State.{Lawful};
 ghost use Rattle.bridge.specs.Links.{linksOf};
@@ -92,16 +93,14 @@ pub fn own_clock(b: Bridge, form: Form, out: &mut [u8]) -> Answered
 // `R port arrival frame`.
 pub fn receive(b: Bridge, form: Form, out: &mut [u8]) -> Answered
     requires { ⌜ Lawful b ⌝ }
+    requires { ⌜ length (form .bytes) ≡ mostBytes ⌝ }
     requires { ⌜ longestAnswer ≤ length (now out) ⌝ }
     ensures { λ r. ⌜ Says (doneSays (receiveOf b (byteIn form 0) (take (sizeIn form 2) (form .bytes)) (numberIn form 1))) r (now (out .entry)) (now (out .exit)) ⌝ }
 {
     let port = arguments::byte(form, 0);
     let n = arguments::size(form, 2);
     let bytes = form.bytes;
-    answer::done(
-        bridge::receive(b, port, &bytes[..n], form.numbers[1]),
-        out,
-    )
+    answer::done(bridge::receive(b, port, &bytes[..n], form.numbers[1]), out)
 }
 
 // `A now`.

@@ -8,6 +8,7 @@ ghost use mathlib.Core.Path.{_≡_};
 ghost use Prim.Native.Nat.{_≤_};
 ghost use lib.ListN.{length};
 ghost use Rattle.bridge.specs.State.{Lawful};
+ghost use Rattle.fields.specs.Form.{mostBytes};
 ghost use Rattle.columns.specs.Columns.{longestAnswer, Prints};
 ghost use Rattle.answer.specs.Answer.{Says};
 ghost use Rattle.command.specs.Answer.{askedText, callOf, isLine, answerOf};
@@ -31,6 +32,7 @@ fn is_line(text: &[u8]) -> bool
 // A letter whose call leaves the state as it is.
 fn asked(b: Bridge, letter: u8, form: Form, out: &mut [u8]) -> usize
     requires { ⌜ Lawful b ⌝ }
+    requires { ⌜ length (form .bytes) ≡ mostBytes ⌝ }
     requires { ⌜ longestAnswer ≤ length (now out) ⌝ }
     ensures { λ r. ⌜ Prints (askedText letter b form) r (now (out .entry)) (now (out .exit)) ⌝ }
 {
@@ -47,6 +49,7 @@ fn asked(b: Bridge, letter: u8, form: Form, out: &mut [u8]) -> usize
 // The call of a letter, with what its fields say.
 fn call(b: Bridge, letter: u8, form: Form, out: &mut [u8]) -> Answered
     requires { ⌜ Lawful b ⌝ }
+    requires { ⌜ length (form .bytes) ≡ mostBytes ⌝ }
     requires { ⌜ longestAnswer ≤ length (now out) ⌝ }
     ensures { λ r. ⌜ Says (callOf letter b form) r (now (out .entry)) (now (out .exit)) ⌝ }
 {

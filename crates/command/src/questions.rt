@@ -12,6 +12,7 @@ ghost use Rattle.bridge.specs.State.{Lawful};
 ghost use Rattle.bridge.specs.Chosen.{chosenOf};
 ghost use Rattle.bridge.specs.Drift.{driftAt};
 ghost use Rattle.fields.specs.Field.{mostLength};
+ghost use Rattle.fields.specs.Form.{mostBytes};
 ghost use Rattle.columns.specs.Columns.{longestAnswer, lineWith, Prints};
 ghost use Rattle.command.specs.Argument.{numberIn, byteIn, sizeIn, fieldsIn, untouched};
 ghost use Rattle.command.specs.Answer.{chosenText, driftText, fieldValues, readText, writeText, betterText};
@@ -89,8 +90,36 @@ pub fn drift(b: Bridge, form: Form, out: &mut [u8]) -> usize
 
 // The columns of a frame's fields: how many bytes each has, and what it says.
 const WIDTHS: [usize; 30] = [
-    BYTE, CHARACTER, BYTE, BYTE, BYTE, BYTE, BYTE, BYTE, CHARACTER, BYTE, BYTE, 2, BYTE, 8, CHARACTER, BYTE, CHARACTER, BYTE,
-    CHARACTER, 5, 5, CHARACTER, 6, CHARACTER, 6, CHARACTER, 6, CHARACTER, 4, CHARACTER,
+    BYTE,
+    CHARACTER,
+    BYTE,
+    BYTE,
+    BYTE,
+    BYTE,
+    BYTE,
+    BYTE,
+    CHARACTER,
+    BYTE,
+    BYTE,
+    2,
+    BYTE,
+    8,
+    CHARACTER,
+    BYTE,
+    CHARACTER,
+    BYTE,
+    CHARACTER,
+    5,
+    5,
+    CHARACTER,
+    6,
+    CHARACTER,
+    6,
+    CHARACTER,
+    6,
+    CHARACTER,
+    4,
+    CHARACTER,
 ];
 
 fn values(f: Fields) -> [u64; 30]
@@ -143,6 +172,7 @@ fn reading(said: Reading, out: &mut [u8]) -> usize
 
 // `F frame`.
 pub fn read(form: Form, out: &mut [u8]) -> usize
+    requires { ⌜ length (form .bytes) ≡ mostBytes ⌝ }
     requires { ⌜ longestAnswer ≤ length (now out) ⌝ }
     ensures { λ r. ⌜ Prints (readText (readOf (take (sizeIn form 0) (form .bytes)))) r (now (out .entry)) (now (out .exit)) ⌝ }
 {
@@ -174,6 +204,7 @@ pub fn write(form: Form, out: &mut [u8]) -> usize
 
 // `B a b`.
 pub fn better(form: Form, out: &mut [u8]) -> usize
+    requires { ⌜ length (form .bytes) ≡ mostBytes ⌝ }
     requires { ⌜ longestAnswer ≤ length (now out) ⌝ }
     ensures { λ r. ⌜ Prints (betterText (take (sizeIn form 0) (form .bytes)) (take (sizeIn form 1) (drop (sizeIn form 0) (form .bytes)))) r (now (out .entry)) (now (out .exit)) ⌝ }
 {

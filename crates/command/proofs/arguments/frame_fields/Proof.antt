@@ -1,5 +1,4 @@
 -- Each field from its bytes or its number.
-use native.Mathlib.Omega.{arith}
 use Rattle.command.specs.Argument.{fieldsIn}
 use borrow.Author.Needs.{needs}
 use Rattle.command.proofs.arguments.frame_fields.Statement.{statement}
@@ -7,7 +6,7 @@ use Rattle.command.proofs.arguments.frame_fields.Tie as tie
 
 returns : tie.Need-returns
 unfolding fieldsIn
-returns c = rw (c .before .before .before .before .before .before .before .before .before .before .mac .ensures, c .before .before .before .before .before .before .before .before .before .precedence .ensures, c .before .before .before .before .before .before .before .before .byte .ensures, c .before .before .before .before .before .before .before .byte2 .ensures, c .number-at .ensures .0)
+returns c = rw (c .before .before .before .before .before .before .before .before .before .mac .ensures, c .before .before .before .before .before .before .before .before .precedence .ensures, c .before .before .before .before .before .before .before .byte .ensures, c .before .before .before .before .before .before .byte2 .ensures, c .error .ensures)
 
 pub frame-fields-spec : {M : Type 1} → statement M
 unfolding fieldsIn
@@ -23,7 +22,5 @@ frame-fields-spec =
     (λ c. search needs)
     (λ c. search needs)
     (λ c. search needs)
-    (λ c. search needs)
-    (λ c κs. (omega arith, omega (arith, c .before .before .before .before .before .before .before .before .before .before .before .good)))
-    (λ c. search needs)
+    (λ c κs. search needs)
     returns)

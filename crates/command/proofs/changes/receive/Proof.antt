@@ -15,8 +15,8 @@ receive-spec =
     (tie.spec
     (λ c κs. search needs)
     (λ c κs. search needs)
-    (λ c. omega (arith, c .before .size .ensures, c .before .before .before .before .good .1 .0))
-    (λ c. sym (length-take-le _ _ (omega (arith, c .before .before .size .ensures, c .before .before .before .before .before .good .1 .0))))
+    (λ c. omega (arith, c .before .size .ensures, c .before .before .before .before .pre .1 .0))
+    (λ c. sym (length-take-le _ _ (omega (arith, c .before .before .size .ensures, c .before .before .before .before .before .pre .1 .0))))
     (λ c. search needs)
     (λ c κs. search needs)
     (λ c κs. search needs)

@@ -9,7 +9,7 @@ use Rattle.command.proofs.changes.send.Statement.{statement}
 use Rattle.command.proofs.changes.send.Tie as tie
 
 sent-requires : tie.Need-sent-requires
-sent-requires c κs = (c .before .before .before .before .before .before .pre .0, omega (arith, c .before .before .before .size .ensures, length-take (c .before .before .before .size .result) (replicate 128 untouchedByte)), c .before .before .before .before .before .before .pre .1)
+sent-requires c κs = (c .before .before .before .before .before .before .pre .0, (omega (arith, c .before .before .before .size .ensures, length-take (c .before .before .before .size .result) (replicate 128 untouchedByte)), c .before .before .before .before .before .before .pre .1))
 
 returns : tie.Need-returns
 returns c = rw (← c .before .before .before .before .before .before .before .before .byte .ensures, ← c .before .before .before .before .before .before .before .size .ensures) (c .before .before .before .sent .ensures)

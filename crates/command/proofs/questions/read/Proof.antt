@@ -14,8 +14,8 @@ read-spec =
     tie.close
     (tie.spec
     (λ c κs. search needs)
-    (λ c. omega (arith, c .before .size .ensures, c .before .before .before .good .0))
-    (λ c. sym (length-take-le _ _ (omega (arith, c .before .before .size .ensures, c .before .before .before .before .good .0))))
+    (λ c. omega (arith, c .before .size .ensures, c .before .before .before .pre .0))
+    (λ c. sym (length-take-le _ _ (omega (arith, c .before .before .size .ensures, c .before .before .before .before .pre .0))))
     (λ c κs. search needs)
     (λ c κs. search needs)
     (λ c. search needs)
