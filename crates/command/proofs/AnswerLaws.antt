@@ -1,0 +1,100 @@
+-- Laws of what a line is answered with: a drift is a number, and the better frame's bytes.
+use mathlib.Core.Path.{_≡_, refl, sym, ap, _∙_}
+use mathlib.Core.Bool.{Bool, true, false, not, cond, true≢false}
+use mathlib.Core.List.{List, [], _∷_}
+use Prim.Native.Nat.{ℕ, zero, suc, _+_, _*_, _^_, _<_, _≤_}
+use native.Mathlib.Omega.{arith}
+use lib.ListN.{length, length-take}
+use lib.Dec.{T, ltb}
+use lib.Ieee.{Float, inf, isNan, Format, binary64, prec, emax, low, round, units, odd}
+use lib.IntN.{ℤ}
+use denote.Ref.{RefT, now}
+use Rattle.samples.specs.declared.Samples.{Samples}
+use Rattle.samples.specs.declared.Samples.the-variants.{Empty, One, Two}
+use Rattle.relay.specs.Drift.{ppmOf, driftOf}
+use Rattle.relay.specs.Sent.{rateBetween}
+use Rattle.relay.specs.declared.Drift.the-variants.{PartsPerMillion, Refused as noClock}
+use Rattle.frame.specs.Better.{standingOf, winnerOf, precedenceBytes, lies, pieceBy, betterPartOf}
+use Rattle.frame.specs.declared.Winner.{Winner}
+use Rattle.frame.specs.declared.Winner.the-variants.{Neither, First, Second}
+use Rattle.table.specs.Table.{samplesAt}
+use Rattle.bridge.specs.Drift.{driftAt}
+use Rattle.bridge.specs.declared.Bridge.{Bridge}
+use Rattle.columns.specs.Columns.{bytesLine}
+use Rattle.fields.specs.declared.Form.{Form}
+use Rattle.command.specs.Answer.{pieceOf, betterText, callOf, isLine, letterOf, formIn, answerOf}
+
+-- ---- a drift is a number
+
+odd-number : (d : ℕ) (s : Bool) (q k l : ℕ) → isNan (odd d s q k l) ≡ false
+unfolding odd isNan
+odd-number d s zero k l = refl
+odd-number d s (suc q) k l = refl
+
+either-number : (b : Bool) (x y : Float) → isNan x ≡ false → isNan y ≡ false → isNan (cond b x y) ≡ false
+either-number true x y e k = e
+either-number false x y e k = k
+
+inf-number : (s : Bool) → isNan (inf s) ≡ false
+unfolding isNan
+inf-number s = refl
+
+units-number : (f : Format) (s : Bool) (q k : ℕ) → isNan (units f s q k) ≡ false
+unfolding units
+units-number f s q k =
+    either-number (ltb (q * 2 ^ k) (2 ^ (low f + suc (emax f)))) (odd (suc (prec f)) s q k (low f)) (inf s) (odd-number (suc (prec f)) s q k (low f)) (inf-number s)
+
+round-number : (f : Format) (s : Bool) (n d : ℕ) → isNan (round f s n d) ≡ false
+unfolding round
+round-number f s n d = units-number f s _ _
+
+ppm-number : (r : ℤ) → isNan (ppmOf r) ≡ false
+unfolding ppmOf
+ppm-number r = round-number binary64 _ _ _
+
+drift-by : (c : Bool) (s : Samples) (x : Float) → cond c noClock (driftOf s) ≡ PartsPerMillion x → T (not (isNan x))
+unfolding driftOf
+drift-by true s x e = let z : _≡_ {A = ℕ} 0 1 = cc in absurd (omega arith)
+drift-by false Empty x e = let z : _≡_ {A = ℕ} 0 1 = cc in absurd (omega arith)
+drift-by false (One a) x e = let z : _≡_ {A = ℕ} 0 1 = cc in absurd (omega arith)
+drift-by false (Two a b) x e =
+    let q : x ≡ ppmOf (rateBetween a b) = cc in
+    rw (q, ppm-number) tt
+
+pub drift-number : (b : Bridge) (p : ℕ) (x : Float) → driftAt b p ≡ PartsPerMillion x → T (not (isNan x))
+unfolding driftAt
+drift-number b p x e = drift-by (ltb (b .n) p) (samplesAt p (b .clock) (b .ports)) x e
+
+-- ---- the better frame's bytes
+
+piece-bytes : (w : Winner) (a b : RefT (List ℕ)) → pieceBy w a b .1 ≡ pieceOf w (now a) (now b)
+piece-bytes Neither a b = refl
+piece-bytes First a b = refl
+piece-bytes Second a b = refl
+
+piece-small : (w : Winner) (a b : List ℕ) → length (pieceOf w a b) ≤ precedenceBytes
+piece-small Neither a b = omega arith
+piece-small First a b = rw length-take (omega arith)
+piece-small Second a b = rw length-take (omega arith)
+
+module _ (r a b : RefT (List ℕ)) (e : lies r ≡ betterPartOf a b) where
+  same : now r ≡ pieceOf (winnerOf (standingOf (now a)) (standingOf (now b))) (now a) (now b)
+  same = ap (λ (x : (ℕ × ℕ) × List ℕ). x .1) e ∙ piece-bytes (winnerOf (standingOf (now a)) (standingOf (now b))) a b
+
+  pub better-text : bytesLine (now r) ≡ betterText (now a) (now b)
+  unfolding betterText
+  better-text = ap bytesLine same
+
+  pub better-short : length (now r) ≤ precedenceBytes
+  better-short = rw same (piece-small (winnerOf (standingOf (now a)) (standingOf (now b))) (now a) (now b))
+
+-- ---- a line that has a letter and its form
+
+pub line-some : (s : List ℕ) → isLine s ≡ true → 0 < length s
+unfolding isLine
+line-some [] e = absurd (true≢false (sym e))
+line-some (x ∷ s) e = omega arith
+
+pub answer-call : (b : Bridge) (s : List ℕ) {f : Form} → isLine s ≡ true → f ≡ formIn s → f .good ≡ true → callOf (letterOf s) b f ≡ answerOf b s
+unfolding answerOf
+answer-call b s l e g = ap (callOf (letterOf s) b) e ∙ rw (l, sym (ap (λ (x : Form). x .good) e) ∙ g) refl

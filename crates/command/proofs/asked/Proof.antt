@@ -1,0 +1,34 @@
+-- By the letter.
+use borrow.Author.Tests.{ne-eqb}
+use Rattle.command.specs.Answer.{askedText}
+use borrow.Author.Needs.{needs}
+use Rattle.command.proofs.asked.Statement.{statement}
+use Rattle.command.proofs.asked.Tie as tie
+
+returns-6 : tie.Need-returns-6
+unfolding askedText
+returns-6 c = rw (ne-eqb _ _ (c .before .before .before .before .match .rest .0 .0 .0 .0 .1), ne-eqb _ _ (c .before .before .before .before .match .rest .0 .0 .0 .1), ne-eqb _ _ (c .before .before .before .before .match .rest .0 .0 .1), ne-eqb _ _ (c .before .before .before .before .match .rest .0 .1), ne-eqb _ _ (c .before .before .before .before .match .rest .1)) (c .before .before .one .ensures)
+
+pub asked-spec : {M : Type 1} → statement M
+unfolding askedText
+asked-spec =
+    tie.close
+    (tie.spec
+    (λ c κs. search needs)
+    (λ c κs. search needs)
+    (λ c κs. search needs)
+    (λ c κs. search needs)
+    (λ c κs. search needs)
+    (λ c κs. search needs)
+    (λ c. search needs)
+    (λ c. rw (c .before .before .before .before .match .keys1) (c .before .before .chosen .ensures))
+    (λ c. search needs)
+    (λ c. rw (c .before .before .before .before .match .keys2) (c .before .before .drift .ensures))
+    (λ c. search needs)
+    (λ c. rw (c .before .before .before .before .match .keys3) (c .before .before .read .ensures))
+    (λ c. search needs)
+    (λ c. rw (c .before .before .before .before .match .keys4) (c .before .before .write .ensures))
+    (λ c. search needs)
+    (λ c. rw (c .before .before .before .before .match .keys5) (c .before .before .better .ensures))
+    (λ c. search needs)
+    returns-6)

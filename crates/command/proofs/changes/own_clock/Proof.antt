@@ -1,0 +1,20 @@
+-- What Own clock answers.
+use borrow.Author.Needs.{needs}
+use Rattle.command.proofs.changes.own_clock.Statement.{statement}
+use Rattle.command.proofs.changes.own_clock.Tie as tie
+
+returns : tie.Need-returns
+returns c = rw (← c .before .before .before .before .before .before .before .before .byte .ensures, ← c .before .before .before .before .own-clock .ensures .0) (c .before .before .done .ensures)
+
+pub own-clock-spec : {M : Type 1} → statement M
+own-clock-spec =
+    tie.close
+    (tie.spec
+    (λ c κs. search needs)
+    (λ c. search needs)
+    (λ c. search needs)
+    (λ c. search needs)
+    (λ c κs. search needs)
+    (λ c κs. search needs)
+    (λ c. search needs)
+    returns)

@@ -1,0 +1,24 @@
+-- The frame is a part of the line's bytes.
+use mathlib.Core.Path.{sym}
+use native.Mathlib.Omega.{arith}
+use lib.Seq.{length-take-le}
+use borrow.Author.Needs.{needs}
+use Rattle.command.proofs.changes.receive.Statement.{statement}
+use Rattle.command.proofs.changes.receive.Tie as tie
+
+returns : tie.Need-returns
+returns c = rw (← c .before .before .before .before .before .before .before .before .before .byte .ensures, ← c .before .before .before .before .before .before .before .before .size .ensures, ← c .before .before .before .before .receive .ensures .0) (c .before .before .done .ensures)
+
+pub receive-spec : {M : Type 1} → statement M
+receive-spec =
+    tie.close
+    (tie.spec
+    (λ c κs. search needs)
+    (λ c κs. search needs)
+    (λ c. omega (arith, c .before .size .ensures, c .before .before .before .before .pre .1 .0))
+    (λ c. sym (length-take-le _ _ (omega (arith, c .before .before .size .ensures, c .before .before .before .before .before .pre .1 .0))))
+    (λ c. search needs)
+    (λ c κs. search needs)
+    (λ c κs. search needs)
+    (λ c. search needs)
+    returns)

@@ -1,0 +1,28 @@
+-- The output is a part of 128 bytes.
+use mathlib.Core.Path.{sym}
+use native.Mathlib.Omega.{arith}
+use lib.ListN.{replicate, length-take}
+use lib.Seq.{length-take-le}
+use Rattle.command.specs.Argument.{untouchedByte}
+use borrow.Author.Needs.{needs}
+use Rattle.command.proofs.changes.send.Statement.{statement}
+use Rattle.command.proofs.changes.send.Tie as tie
+
+sent-requires : tie.Need-sent-requires
+sent-requires c κs = (c .before .before .before .before .before .before .pre .0, (omega (arith, c .before .before .before .size .ensures, length-take (c .before .before .before .size .result) (replicate 128 untouchedByte)), c .before .before .before .before .before .before .pre .1))
+
+returns : tie.Need-returns
+returns c = rw (← c .before .before .before .before .before .before .before .before .byte .ensures, ← c .before .before .before .before .before .before .before .size .ensures) (c .before .before .before .sent .ensures)
+
+pub send-spec : {M : Type 1} → statement M
+send-spec =
+    tie.close
+    (tie.spec
+    (λ c κs. search needs)
+    (λ c κs. search needs)
+    (λ c. search needs)
+    (λ c. search needs)
+    (λ c. sym (length-take-le _ (replicate 128 untouchedByte) (omega (arith, c .before .before .size .ensures))))
+    sent-requires
+    (λ c. search needs)
+    returns)

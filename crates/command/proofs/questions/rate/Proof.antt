@@ -1,0 +1,24 @@
+-- By the drift.
+use mathlib.Core.Path.{sym, ap}
+use Rattle.answer.proofs.AnswerLaws.{as-prints}
+use Rattle.command.specs.Answer.{driftText}
+use borrow.Author.Needs.{needs}
+use Rattle.command.proofs.questions.rate.Statement.{statement}
+use Rattle.command.proofs.questions.rate.Tie as tie
+
+pub rate-spec : {M : Type 1} → statement M
+rate-spec =
+    tie.close
+    (tie.spec
+    (λ c. search needs)
+    (λ c κs. search needs)
+    (λ c. search needs)
+    (λ c κs. search needs)
+    (λ c. search needs)
+    (λ c κs. (c .before .before .before .before .before .pre .0 _ (c .before .before .drift .given .1), c .before .before .before .before .before .pre .1))
+    (λ c. search needs)
+    (λ c. as-prints (ap driftText (sym (c .before .before .before .before .enum-told .given .1))) (c .before .before .one .ensures))
+    (λ c. search needs)
+    (λ c. as-prints (ap driftText (sym (c .before .before .before .before .enum-told2 .given .1))) (c .before .before .one2 .ensures))
+    (λ c. search needs)
+    (λ c. as-prints (ap driftText (sym (c .before .before .before .before .before .drift .given .1))) (c .before .before .bits .ensures)))

@@ -1,0 +1,27 @@
+-- By what is read.
+use mathlib.Core.Path.{sym, ap, _∙_}
+use Rattle.columns.specs.Columns.{columnsText}
+use Rattle.answer.proofs.AnswerLaws.{as-prints}
+use Rattle.command.specs.Answer.{fieldWidths, readText}
+use borrow.Author.Needs.{needs}
+use Rattle.command.proofs.questions.reading.Statement.{statement}
+use Rattle.command.proofs.questions.reading.Tie as tie
+
+returns-2 : tie.Need-returns-2
+returns-2 c = as-prints (ap (columnsText fieldWidths) (c .before .before .before .before .values .ensures) ∙ ap readText (sym (c .before .before .before .before .before .before .before .before .said2 .given .1))) (c .before .before .line .ensures)
+
+pub reading-spec : {M : Type 1} → statement M
+reading-spec =
+    tie.close
+    (tie.spec
+    (λ c. search needs)
+    (λ c κs. search needs)
+    (λ c. search needs)
+    (λ c. search needs)
+    (λ c κs. search needs)
+    (λ c. search needs)
+    (λ c κs. search needs)
+    (λ c. search needs)
+    (λ c. as-prints (ap readText (sym (c .before .before .before .before .before .said .given .1))) (c .before .before .one .ensures))
+    (λ c. search needs)
+    returns-2)

@@ -1,0 +1,27 @@
+-- The output is a part of 128 bytes.
+use mathlib.Core.Path.{sym}
+use native.Mathlib.Omega.{arith}
+use lib.ListN.{replicate, length-take}
+use lib.Seq.{length-take-le}
+use Rattle.command.specs.Argument.{untouchedByte}
+use borrow.Author.Needs.{needs}
+use Rattle.command.proofs.questions.write.Statement.{statement}
+use Rattle.command.proofs.questions.write.Tie as tie
+
+written-requires : tie.Need-written-requires
+written-requires c κs = (omega (arith, c .before .before .size .ensures, length-take (c .before .before .size .result) (replicate 128 untouchedByte)), c .before .before .before .before .before .pre)
+
+returns : tie.Need-returns
+returns c = rw (← c .before .before .before .before .before .before .before .frame-fields .ensures, ← c .before .before .before .before .before .before .size .ensures) (c .before .before .before .written .ensures)
+
+pub write-spec : {M : Type 1} → statement M
+write-spec =
+    tie.close
+    (tie.spec
+    (λ c κs. search needs)
+    (λ c κs. search needs)
+    (λ c. search needs)
+    (λ c. sym (length-take-le _ (replicate 128 untouchedByte) (omega (arith, c .before .size .ensures))))
+    written-requires
+    (λ c. search needs)
+    returns)

@@ -1,0 +1,140 @@
+// The lines whose call changes the state. Above each stands the line; its fields are counted from 0, the first after the letter.
+ghost use mathlib.Core.Path.{_≡_};
+ghost use Prim.Native.Nat.{_≤_};
+ghost use lib.ListN.{length, take};
+ghost use Rattle.fields.specs.Field.{mostLength};
+ghost use Rattle.fields.specs.Form.{mostBytes};
+ghost use Rattle.columns.specs.Columns.{longestAnswer, Prints};
+ghost use Rattle.bridge.specs.State.{Lawful};
+ghost use Rattle.bridge.specs.Links.{linksOf};
+ghost use Rattle.bridge.specs.Own.{ownClockOf};
+ghost use Rattle.bridge.specs.Receive.{receiveOf};
+ghost use Rattle.bridge.specs.Age.{ageOf};
+ghost use Rattle.answer.specs.Answer.{doneSays, Says};
+ghost use Rattle.command.specs.Argument.{numberIn, byteIn, sizeIn, untouched};
+ghost use Rattle.command.specs.Answer.{setupDone, linkText, linkedSays, sendSays};
+use crate::arguments;
+use answer::Answered;
+use bridge::Bridge;
+use bridge::Done;
+use bridge::LinkCount;
+use fields::Form;
+
+// The flag of a station that is capable of a clock of its own.
+const CAPABLE: u64 = 1;
+
+// What an output holds before a call.
+pub const UNTOUCHED: u8 = 0xA5;
+
+// The state that Setup makes of a line.
+fn set_up(form: Form) -> Done
+    ensures { λ r. ⌜ r ≡ setupDone form ⌝ }
+    ensures { λ r. ⌜ Lawful (r .next) ⌝ }
+{
+    let bytes = form.bytes;
+    bridge::setup(
+        arguments::byte(form, 0),
+        arguments::mac(bytes),
+        arguments::precedence(bytes),
+        form.numbers[3] == CAPABLE,
+        arguments::number_or(form, 4, bridge::DEFAULT_TIMEOUT),
+        arguments::number_or(form, 5, bridge::DEFAULT_BACK),
+        arguments::settings(form),
+    )
+}
+
+// `S n mac prec capable timeout back d1 .. d8`.
+pub fn setup(form: Form, out: &mut [u8]) -> Answered
+    requires { ⌜ longestAnswer ≤ length (now out) ⌝ }
+    ensures { λ r. ⌜ Says (doneSays (setupDone form)) r (now (out .entry)) (now (out .exit)) ⌝ }
+{
+    answer::done(set_up(form), out)
+}
+
+// Prints what Links answers.
+fn link_count(answer: LinkCount, out: &mut [u8]) -> usize
+    requires { ⌜ longestAnswer ≤ length (now out) ⌝ }
+    ensures { λ r. ⌜ Prints (linkText answer) r (now (out .entry)) (now (out .exit)) ⌝ }
+{
+    match answer {
+        LinkCount::Refused => columns::one(out, refusals::OUT_OF_RANGE),
+        LinkCount::Up(n) => columns::two(out, refusals::DONE, n),
+    }
+}
+
+// `L mask`.
+pub fn links(b: Bridge, form: Form, out: &mut [u8]) -> Answered
+    requires { ⌜ Lawful b ⌝ }
+    requires { ⌜ longestAnswer ≤ length (now out) ⌝ }
+    ensures { λ r. ⌜ Says (linkedSays (linksOf b (byteIn form 0))) r (now (out .entry)) (now (out .exit)) ⌝ }
+{
+    let linked = bridge::links(b, arguments::byte(form, 0));
+    let answer = linked.answer;
+    let next = linked.next;
+    Answered {
+        next: next,
+        len: link_count(answer, out),
+    }
+}
+
+// `O count sec frac now`.
+pub fn own_clock(b: Bridge, form: Form, out: &mut [u8]) -> Answered
+    requires { ⌜ Lawful b ⌝ }
+    requires { ⌜ longestAnswer ≤ length (now out) ⌝ }
+    ensures { λ r. ⌜ Says (doneSays (ownClockOf b (byteIn form 0) (numberIn form 1) (numberIn form 2) (numberIn form 3))) r (now (out .entry)) (now (out .exit)) ⌝ }
+{
+    let count = arguments::byte(form, 0);
+    answer::done(
+        bridge::own_clock(b, count, form.numbers[1], form.numbers[2], form.numbers[3]),
+        out,
+    )
+}
+
+// `R port arrival frame`.
+pub fn receive(b: Bridge, form: Form, out: &mut [u8]) -> Answered
+    requires { ⌜ Lawful b ⌝ }
+    requires { ⌜ length (form .bytes) ≡ mostBytes ⌝ }
+    requires { ⌜ longestAnswer ≤ length (now out) ⌝ }
+    ensures { λ r. ⌜ Says (doneSays (receiveOf b (byteIn form 0) (take (sizeIn form 2) (form .bytes)) (numberIn form 1))) r (now (out .entry)) (now (out .exit)) ⌝ }
+{
+    let port = arguments::byte(form, 0);
+    let n = arguments::size(form, 2);
+    let bytes = form.bytes;
+    answer::done(bridge::receive(b, port, &bytes[..n], form.numbers[1]), out)
+}
+
+// `A now`.
+pub fn age(b: Bridge, form: Form, out: &mut [u8]) -> Answered
+    requires { ⌜ Lawful b ⌝ }
+    requires { ⌜ longestAnswer ≤ length (now out) ⌝ }
+    ensures { λ r. ⌜ Says (doneSays (ageOf b (numberIn form 0))) r (now (out .entry)) (now (out .exit)) ⌝ }
+{
+    answer::done(bridge::age(b, form.numbers[0]), out)
+}
+
+// Send into an output of at most 128 bytes.
+fn sent(b: Bridge, port: u8, t: u64, frame: &mut [u8], out: &mut [u8]) -> Answered
+    requires { ⌜ Lawful b ⌝ }
+    requires { ⌜ length (now frame) ≤ mostLength ⌝ }
+    requires { ⌜ longestAnswer ≤ length (now out) ⌝ }
+    ensures { λ r. ⌜ Says (sendSays b port t (now (frame .entry))) r (now (out .entry)) (now (out .exit)) ⌝ }
+{
+    let done = bridge::send(b, port, t, frame);
+    let next = done.next;
+    Answered {
+        next: next,
+        len: columns::with_bytes(out, done.answer, frame),
+    }
+}
+
+// `T port t length`.
+pub fn send(b: Bridge, form: Form, out: &mut [u8]) -> Answered
+    requires { ⌜ Lawful b ⌝ }
+    requires { ⌜ longestAnswer ≤ length (now out) ⌝ }
+    ensures { λ r. ⌜ Says (sendSays b (byteIn form 0) (numberIn form 1) (untouched (sizeIn form 2))) r (now (out .entry)) (now (out .exit)) ⌝ }
+{
+    let port = arguments::byte(form, 0);
+    let n = arguments::size(form, 2);
+    let mut frame = [UNTOUCHED; 128];
+    sent(b, port, form.numbers[1], &mut frame[..n], out)
+}
