@@ -11,9 +11,9 @@ use lib.IntN.{ℤ}
 use denote.Ref.{RefT, now}
 use Rattle.samples.specs.declared.Samples.{Samples}
 use Rattle.samples.specs.declared.Samples.the-variants.{Empty, One, Two}
-use Rattle.relay.specs.Drift.{ppmOf, driftOf}
-use Rattle.relay.specs.Sent.{rateBetween}
-use Rattle.relay.specs.declared.Drift.the-variants.{PartsPerMillion, Refused as noClock}
+use Rattle.line.specs.Drift.{ppmOf, driftOf}
+use Rattle.samples.specs.Keep.{rateBetween}
+use Rattle.line.specs.declared.Drift.the-variants.{PartsPerMillion, Refused as noClock}
 use Rattle.frame.specs.Better.{standingOf, winnerOf, precedenceBytes, lies, pieceBy, betterPartOf}
 use Rattle.frame.specs.declared.Winner.{Winner}
 use Rattle.frame.specs.declared.Winner.the-variants.{Neither, First, Second}

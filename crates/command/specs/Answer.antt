@@ -7,8 +7,8 @@ use lib.Dec.{leb, eqb}
 use lib.Ieee.{toBits, binary64}
 use Rattle.refusals.specs.Refusals.{done, outOfRange}
 use Rattle.numbers.specs.Digits.{digits}
-use Rattle.relay.specs.declared.Drift.{Drift}
-use Rattle.relay.specs.declared.Drift.the-variants.{NoReading, PartsPerMillion, Refused as noClock}
+use Rattle.line.specs.declared.Drift.{Drift}
+use Rattle.line.specs.declared.Drift.the-variants.{NoReading, PartsPerMillion, Refused as noClock}
 use Rattle.choice.specs.declared.Candidate.{Candidate}
 use Rattle.choice.specs.declared.Candidate.the-variants.{Nothing, Clock}
 use Rattle.frame.specs.Read.{readOf}

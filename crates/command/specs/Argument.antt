@@ -5,8 +5,8 @@ use mathlib.Core.List.{List, [], _∷_}
 use lib.ListN.{getD, take, drop, replicate}
 use lib.Dec.{eqb}
 use Rattle.numbers.specs.Digits.{numberAt}
-use Rattle.relay.specs.declared.DelaySetting.{DelaySetting}
-use Rattle.relay.specs.declared.DelaySetting.the-variants.{Measured, Fixed}
+use Rattle.delay.specs.declared.DelaySetting.{DelaySetting}
+use Rattle.delay.specs.declared.DelaySetting.the-variants.{Measured, Fixed}
 use Rattle.times.specs.declared.ErrorTime.{ErrorTime}
 use Rattle.choice.specs.declared.Precedence.{Precedence}
 use Rattle.frame.specs.declared.Mac.{Mac}

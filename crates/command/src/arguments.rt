@@ -9,7 +9,7 @@ use frame::Fields;
 use frame::Mac;
 use numbers::digits;
 use port::Setting;
-use relay::DelaySetting;
+use delay::DelaySetting;
 use times::ErrorTime;
 use times::GrandTime;
 use times::LocalTime;

@@ -6,7 +6,7 @@ ghost use lib.ListN.{length, take, drop};
 ghost use lib.Dec.{T};
 ghost use lib.Ieee.{Float, isNan, toBits, binary64};
 ghost use Rattle.numbers.specs.Digits.{digits};
-ghost use Rattle.relay.specs.declared.Drift.the-variants.{PartsPerMillion};
+ghost use Rattle.line.specs.declared.Drift.the-variants.{PartsPerMillion};
 ghost use Rattle.frame.specs.Read.{readOf};
 ghost use Rattle.bridge.specs.State.{Lawful};
 ghost use Rattle.bridge.specs.Chosen.{chosenOf};
@@ -30,7 +30,7 @@ use frame::Reading;
 use frame::better;
 use frame::read;
 use frame::write;
-use relay::Drift;
+use line::Drift;
 
 // What is printed for a clock that there isn't.
 const NOTHING: u8 = 255;
