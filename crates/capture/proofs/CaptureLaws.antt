@@ -11,7 +11,7 @@ use Rattle.refusals.specs.Refusals.{badLine}
 use Rattle.bridge.specs.declared.Bridge.{Bridge}
 use Rattle.bridge.specs.declared.Done.{Done}
 use Rattle.hexline.specs.Digit.{allDigits}
-use Rattle.capture.specs.Capture.{lineDigits, isLine, toldOf, receivedOf, doneOf, listedOf}
+use Rattle.capture.specs.Capture.{lineDigits, isLine, listedAs, receivedOf, doneOf, listedOf}
 use Rattle.numbers.proofs.Branches.{if-true, if-false}
 
 pub line-length : (s : List ℕ) → isLine s ≡ true → length s ≡ lineDigits
@@ -23,7 +23,7 @@ line-length s e = by (eqb (length s) lineDigits) refl e
     by false k e = absurd (true≢false (sym e))
 
 module _ (b : Bridge) (s : List ℕ) where
-  pub listed-bad : isLine s ≡ false → toldOf b badLine ≡ listedOf b s
+  pub listed-bad : isLine s ≡ false → listedAs b badLine ≡ listedOf b s
   unfolding listedOf
   listed-bad e = if-false _ _ _ e
 
@@ -32,6 +32,6 @@ module _ (b : Bridge) (s : List ℕ) where
   listed-done done e d = ap doneOf d ∙ if-true _ _ _ e
 
   -- a text that is longer than a line is none
-  pub listed-long : lineDigits < length s → toldOf b badLine ≡ listedOf b s
+  pub listed-long : lineDigits < length s → listedAs b badLine ≡ listedOf b s
   unfolding isLine
   listed-long h = listed-bad (sym (if-false _ _ _ (ne-eqb _ _ (λ (e : length s ≡ lineDigits). omega arith))))

@@ -3,21 +3,19 @@ use mathlib.Core.Bool.{Bool, false, cond}
 use mathlib.Core.List.{List}
 use Prim.Native.Nat.{ℕ}
 use lib.Dec.{eqb}
-use lib.ListN.{length, getD, drop, replicate}
+use lib.ListN.{length, getD, drop}
 use Rattle.refusals.specs.Refusals.{badLine}
 use Rattle.numbers.specs.Digits.{numberAt}
-use Rattle.choice.specs.declared.Candidate.{Candidate}
-use Rattle.choice.specs.declared.Candidate.the-variants.{Nothing, Clock}
-use Rattle.table.specs.Table.{mostPorts}
-use Rattle.table.specs.Fits.{measuredSetting}
-use Rattle.bridge.specs.Setup.{defaultTimeout, defaultBack, noMac, noPrecedence, setupOf}
+use Rattle.choice.specs.Choose.{shownPort, shownHop}
+use Rattle.table.specs.Fits.{plainSetup}
+use Rattle.bridge.specs.Setup.{defaultTimeout, defaultBack, setupOf}
 use Rattle.bridge.specs.Links.{linksOf}
 use Rattle.bridge.specs.Chosen.{chosenOf}
 use Rattle.bridge.specs.Receive.{receiveOf}
 use Rattle.bridge.specs.declared.Bridge.{Bridge}
 use Rattle.bridge.specs.declared.Done.{Done}
 use Rattle.hexline.specs.Digit.{allDigits, pairs}
-use Rattle.hexline.specs.Print.{threeOf}
+use Rattle.columns.specs.Columns.{line3}
 use Rattle.answer.specs.Answer.{Answer, says}
 
 -- the listing's bridge: two measured ports, both linked, not capable, the default times; address and own precedence can't show
@@ -28,8 +26,7 @@ abbrev pub bothLinked : ℕ
 bothLinked = 3
 
 unfoldable pub startOf : Bridge
-startOf =
-    linksOf (setupOf listingPorts noMac noPrecedence false defaultTimeout defaultBack (replicate mostPorts measuredSetting) .next) bothLinked .next
+startOf = linksOf (setupOf (plainSetup listingPorts defaultTimeout defaultBack) .next) bothLinked .next
 
 -- the digits of a line
 abbrev pub lineDigits : ℕ
@@ -39,29 +36,33 @@ lineDigits = 142
 unfoldable pub isLine : List ℕ → Bool
 isLine s = cond (eqb (length s) lineDigits) (allDigits s) false
 
--- what is printed for a clock that there isn't
-abbrev pub nothing : ℕ
-nothing = 255
+-- an answer, with the port and the held hop of the clock that is chosen then
+abbrev pub listedAs : Bridge → ℕ → Answer
+listedAs b answer = says b (line3 answer (shownPort (chosenOf b)) (shownHop (chosenOf b)))
 
--- an answer with the chosen clock's port and held hop
-abbrev pub toldText : ℕ → Candidate → List ℕ
-toldText answer Nothing = threeOf answer nothing nothing
-toldText answer (Clock precedence hop port) = threeOf answer port hop
+-- where the parts of a line's 71 bytes start: the port, the arrival, the frame
+abbrev pub portPlace : ℕ
+portPlace = 0
 
-abbrev pub toldOf : Bridge → ℕ → Answer
-toldOf b answer = says b (toldText answer (chosenOf b))
+abbrev pub arrivalPlace : ℕ
+arrivalPlace = 1
 
--- a line's 71 bytes are the port, six of arrival, and the frame
+abbrev pub arrivalBytes : ℕ
+arrivalBytes = 6
+
+abbrev pub framePlace : ℕ
+framePlace = 7
+
 abbrev pub receivedFrom : Bridge → List ℕ → Done
-receivedFrom b bytes = receiveOf b (getD bytes 0 0) (drop 7 bytes) (numberAt bytes 1 6)
+receivedFrom b bytes = receiveOf b (getD bytes portPlace 0) (drop framePlace bytes) (numberAt bytes arrivalPlace arrivalBytes)
 
 abbrev pub receivedOf : Bridge → List ℕ → Done
 receivedOf b s = receivedFrom b (pairs s)
 
 -- a call's answer, with the clock that is chosen after it
 abbrev pub doneOf : Done → Answer
-doneOf done = toldOf (done .next) (done .answer)
+doneOf done = listedAs (done .next) (done .answer)
 
 -- a line is received, and a text that isn't one is refused
 unfoldable pub listedOf : Bridge → List ℕ → Answer
-listedOf b s = cond (isLine s) (doneOf (receivedOf b s)) (toldOf b badLine)
+listedOf b s = cond (isLine s) (doneOf (receivedOf b s)) (listedAs b badLine)

@@ -4,26 +4,20 @@ ghost use mathlib.Core.Bool.{true};
 ghost use Prim.Native.Nat.{_≤_};
 ghost use lib.ListN.{length};
 ghost use Rattle.bridge.specs.State.{Lawful};
-ghost use Rattle.hexline.specs.Print.{threeOf};
-ghost use Rattle.words.specs.Said.{longest, Prints};
+ghost use Rattle.columns.specs.Columns.{longestAnswer};
 ghost use Rattle.answer.specs.Answer.{Says};
-ghost use Rattle.capture.specs.Capture.{isLine, startOf, toldOf, receivedOf, listedOf};
+ghost use Rattle.capture.specs.Capture.{isLine, startOf, listedAs, receivedOf, listedOf};
 use answer::Answered;
 use bridge::Bridge;
 use bridge::Done;
-use choice::Candidate;
-use choice::Precedence;
-use frame::Mac;
+use choice::candidates;
 use hexline::digits;
-use hexline::printing;
+use table::records;
 
 // The listing's bridge: two ports, both linked.
 const PORTS: u8 = 2;
 
 const BOTH_LINKED: u8 = 3;
-
-// What is printed for a clock that there isn't.
-const NOTHING: u8 = 255;
 
 // The digits of a line.
 const LINE_DIGITS: usize = 142;
@@ -37,60 +31,33 @@ const ARRIVAL_BYTES: usize = 6;
 
 const FRAME_PLACE: usize = 7;
 
-// The length of what is printed.
-const PRINTED: usize = 9;
-
 // The bridge before the first line.
 pub fn start() -> Bridge
     ensures { λ r. ⌜ r ≡ startOf ⌝ }
     ensures { λ r. ⌜ Lawful r ⌝ }
 {
-    let nobody = Mac(0, 0, 0, 0, 0, 0);
-    let least = Precedence {
-        priority1: 0,
-        source: 0,
-        variance: 0,
-        priority2: 0,
-        clock: 0,
-    };
-    let first = bridge::setup(
+    let first = bridge::setup(records::plain_setup(
         PORTS,
-        nobody,
-        least,
-        false,
         bridge::DEFAULT_TIMEOUT,
         bridge::DEFAULT_BACK,
-        table::records::measured_settings(),
-    );
+    ));
     let down = first.next;
     let linked = bridge::links(down, BOTH_LINKED);
     linked.next
 }
 
-// Prints three bytes.
-fn three(out: &mut [u8], a: u8, b: u8, c: u8) -> usize
-    requires { ⌜ longest ≤ length (now out) ⌝ }
-    ensures { λ r. ⌜ Prints (threeOf a b c) r (now (out .entry)) (now (out .exit)) ⌝ }
-{
-    printing::put_three(&mut out[..PRINTED], a, b, c);
-    PRINTED
-}
-
-// Prints an answer with the clock that is chosen now.
-fn told(b: Bridge, answer: u8, out: &mut [u8]) -> Answered
+// An answer with the clock that is chosen now.
+fn listed(b: Bridge, answer: u8, out: &mut [u8]) -> Answered
     requires { ⌜ Lawful b ⌝ }
-    requires { ⌜ longest ≤ length (now out) ⌝ }
-    ensures { λ r. ⌜ Says (toldOf b answer) r (now (out .entry)) (now (out .exit)) ⌝ }
+    requires { ⌜ longestAnswer ≤ length (now out) ⌝ }
+    ensures { λ r. ⌜ Says (listedAs b answer) r (now (out .entry)) (now (out .exit)) ⌝ }
 {
-    match bridge::chosen(b) {
-        Candidate::Nothing => Answered {
-            next: b,
-            len: three(out, answer, NOTHING, NOTHING),
-        },
-        Candidate::Clock(_, hop, port) => Answered {
-            next: b,
-            len: three(out, answer, port, hop),
-        },
+    let choice = bridge::chosen(b);
+    let port = candidates::shown_port(choice);
+    let hop = candidates::shown_hop(choice);
+    Answered {
+        next: b,
+        len: columns::three(out, answer, port, hop),
     }
 }
 
@@ -120,13 +87,13 @@ fn received(b: Bridge, text: &[u8]) -> Done
 // The state after a line, and what is printed for it in out.
 pub fn answer_line(b: Bridge, text: &[u8], out: &mut [u8]) -> Answered
     requires { ⌜ Lawful b ⌝ }
-    requires { ⌜ longest ≤ length (now out) ⌝ }
+    requires { ⌜ longestAnswer ≤ length (now out) ⌝ }
     ensures { λ r. ⌜ Says (listedOf b (now (text .entry))) r (now (out .entry)) (now (out .exit)) ⌝ }
 {
     if !is_line(text) {
-        return told(b, refusals::BAD_LINE, out);
+        return listed(b, refusals::BAD_LINE, out);
     }
     let done = received(b, text);
     let next = done.next;
-    told(next, done.answer, out)
+    listed(next, done.answer, out)
 }

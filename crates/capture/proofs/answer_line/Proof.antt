@@ -13,7 +13,7 @@ returns c =
     let i = t .before .before in
     let l = i .before in
     let s = l .before .before .before in
-    as-says (listed-bad (s .args .b) (s .args .text .now) (sym (l .is-line .ensures) ∙ not-true _ (i .if1 .taken))) (t .told .ensures)
+    as-says (listed-bad (s .args .b) (s .args .text .now) (sym (l .is-line .ensures) ∙ not-true _ (i .if1 .taken))) (t .listed .ensures)
 
 received-requires : tie.Need-received-requires
 received-requires c κs =
@@ -27,7 +27,7 @@ returns-2 c =
     let i = r .before in
     let l = i .before in
     let s = l .before .before .before in
-    as-says (listed-done (s .args .b) (s .args .text .now) (r .received .result) (sym (l .is-line .ensures) ∙ not-false _ (i .if1 .left)) (r .received .ensures .0)) (t .told2 .ensures)
+    as-says (listed-done (s .args .b) (s .args .text .now) (r .received .result) (sym (l .is-line .ensures) ∙ not-false _ (i .if1 .left)) (r .received .ensures .0)) (t .listed2 .ensures)
 
 pub answer-line-spec : {M : Type 1} → statement M
 answer-line-spec =

@@ -1,11 +1,10 @@
 -- By what Setup and Links ensure.
 use mathlib.Core.Path.{_≡_, ap, _∙_}
-use mathlib.Core.Bool.{false}
-use Rattle.bridge.specs.Setup.{defaultTimeout, defaultBack, noMac, noPrecedence, setupOf}
+use Rattle.bridge.specs.Setup.{setupOf}
 use Rattle.bridge.specs.Links.{linksOf}
 use Rattle.bridge.specs.declared.Done.{Done}
 use Rattle.bridge.specs.declared.Linked.{Linked}
-use Rattle.capture.specs.Capture.{startOf, listingPorts, bothLinked}
+use Rattle.capture.specs.Capture.{startOf, bothLinked}
 use borrow.Author.Needs.{needs}
 use Rattle.capture.proofs.start.Statement.{statement}
 use Rattle.capture.proofs.start.Tie as tie
@@ -16,8 +15,7 @@ returns c =
     let l = c .before in
     let u = l .before .before in
     let m = u .before in
-    let set : u .setup .result ≡ setupOf listingPorts noMac noPrecedence false defaultTimeout defaultBack _ =
-    u .setup .ensures .0 ∙ ap (setupOf listingPorts noMac noPrecedence false defaultTimeout defaultBack) (m .measured-settings .ensures) in
+    let set = u .setup .ensures .0 ∙ ap setupOf (m .plain-setup .ensures) in
     (ap (λ (x : Linked). x .next) (l .links .ensures .0 ∙ ap (λ (x : Done). linksOf (x .next) bothLinked) set), l .links .ensures .1)
 
 pub start-spec : {M : Type 1} → statement M
