@@ -2,8 +2,8 @@
 -- through the two kept samples of the chosen clock, read at t less backTime, plus backTime, across the wrap.
 use mathlib.Core.Path.{_≡_, sym, ap, _∙_, subst}
 use mathlib.Core.List.{List}
-use Prim.Native.Nat.{ℕ, _-_, _<_}
-use borrow.Author.Tests.{eqb-false}
+use Prim.Native.Nat.{ℕ, _-_, _<_, _≤_}
+use borrow.Author.Tests.{eqb-true, eqb-false}
 use lib.Dec.{eqb}
 use lib.IntN.{pos}
 use lib.ListN.{length, drop}
@@ -15,10 +15,11 @@ use Rattle.samples.specs.declared.Samples.the-variants.{Two}
 use Rattle.relay.specs.Sent.{reachOf}
 use Rattle.relay.specs.Line.{NearLine}
 use Rattle.frame.specs.Frame.{frameLength}
-use Rattle.frame.specs.Write.{bytesOf}
+use Rattle.frame.specs.Write.{writeRefusal, bytesOf}
 use Rattle.frame.specs.declared.Fields.{Fields}
 use Rattle.port.specs.Send.{filledBy}
 use Rattle.port.specs.declared.Sending.{Sending}
+use Rattle.port.specs.declared.Sending.the-variants.{Frame}
 use Rattle.table.specs.Table.{portAt}
 use Rattle.table.specs.Arguments.{sendRefusal}
 use Rattle.bridge.specs.State.{Lawful}
@@ -29,7 +30,8 @@ use Rattle.bridge.specs.declared.Done.{Done}
 use Rattle.relay.proofs.SentLaws.{sent-range}
 use Rattle.relay.proofs.Bound.{sent-near}
 use Rattle.frame.proofs.Trip.{grand-bytes, count-byte}
-use Rattle.port.proofs.PortLaws.{ReadOff, sending-read-off}
+use Rattle.port.proofs.PortLaws.{ReadOff, sending-read-off, sending-written}
+use Rattle.table.proofs.CheckLaws.{Ready, send-ready}
 use Rattle.table.proofs.TableLaws.{chosen-lawful}
 use Rattle.bridge.proofs.StateLaws.{if-both}
 
@@ -50,6 +52,8 @@ pub record OnLine (b : Bridge) (t : ℕ) (bytes : List ℕ) : Type 0 where
 -- what a send that answers 0 left in the output: a frame, with the port's next frameCount
 pub record Wrote (b : Bridge) (port t : ℕ) (out left : List ℕ) : Type 0 where
   pub fields : Fields
+  pub ready : Ready (b .setup .n) port t × (frameLength ≤ length out)
+  pub sending : sendingAt b (port - 1) (record { 0 = t }) ≡ Frame fields
   pub bytes : left ≡ bytesOf fields (drop frameLength out)
   pub count : fields .count ≡ portAt (b .ports) (port - 1) .count
   pub read : ReadOff (chosenSamples b) (record { 0 = t }) (b .setup .back) fields
@@ -58,9 +62,16 @@ pub wrote : (b : Bridge) (port t : ℕ) (out : List ℕ) → sendOf b port t (le
 unfolding sendOf sendBytes sendingAt
 wrote b port t out =
     if-both (λ (d : Done) (left : List ℕ). d .answer ≡ 0 → Wrote b port t out left) (eqb (sendRefusal (b .setup .n) (b .links) port t (length out)) 0)
-    (λ _ z.
+    (λ q z.
     let f = sending-read-off (chosenOf b) (chosenSamples b) (b .setup .mac) (b .setup .back) (record { 0 = t }) (portAt (b .ports) (port - 1)) z in
-    record { fields = f .0; bytes = ap (λ (x : Sending). filledBy x out) (f .1); count = f .2; read = f .3 })
+    record {
+      fields = f .0;
+      ready = send-ready (b .setup .n) (b .links) port t (length out) (eqb-true _ _ q);
+      sending = f .1;
+      bytes = ap (λ (x : Sending). filledBy x out) (f .1);
+      count = f .2;
+      read = f .3;
+    })
     (λ q z. absurd (eqb-false _ _ q z))
 
 -- DEMAND 3
@@ -82,6 +93,14 @@ sent-frame-near b port t out h e =
           subst (λ (n : ℕ). NearLine (r .older) (r .newer) (pos n) (reachOf (sinceOf (record { 0 = t }) (r .newer .local)) (b .setup .back)) (b .setup .back)) number
           (sent-near (r .older) (r .newer) (record { 0 = t }) (b .setup .back) (f .grand) (f .error) lawful (h .back-small) (r .sent) .0);
     }
+
+-- a frame that was sent is one that Write takes
+pub sent-frame-written : (b : Bridge) (port t : ℕ) (out : List ℕ) → Lawful b → (e : sendOf b port t (length out) .answer ≡ 0)
+    → writeRefusal (wrote b port t out e .fields) (length out) ≡ 0
+unfolding sendingAt
+sent-frame-written b port t out h e =
+    let w = wrote b port t out e in
+    sending-written _ _ _ _ (record { 0 = t }) (portAt (b .ports) (port - 1)) (length out) (w .fields) (w .ready .0 .time) (h .ports-lawful (port - 1)) (w .ready .1) (w .sending)
 
 -- byte 30 of a frame that was sent is the port's next frameCount
 pub sent-frame-count : (b : Bridge) (port t : ℕ) (out : List ℕ) → portAt (b .ports) (port - 1) .count < 256 → sendOf b port t (length out) .answer ≡ 0
