@@ -17,7 +17,7 @@ use Rattle.relay.specs.Line.{NearLine}
 use Rattle.frame.specs.Frame.{frameLength}
 use Rattle.frame.specs.Write.{writeRefusal, bytesOf}
 use Rattle.frame.specs.declared.Fields.{Fields}
-use Rattle.port.specs.Send.{filledBy}
+use Rattle.port.specs.Send.{sendingBytes}
 use Rattle.port.specs.declared.Sending.{Sending}
 use Rattle.port.specs.declared.Sending.the-variants.{Frame}
 use Rattle.table.specs.Table.{portAt}
@@ -68,7 +68,7 @@ wrote b port t out =
       fields = f .0;
       ready = send-ready (b .setup .n) (b .links) port t (length out) (eqb-true _ _ q);
       sending = f .1;
-      bytes = ap (λ (x : Sending). filledBy x out) (f .1);
+      bytes = ap (λ (x : Sending). sendingBytes x out) (f .1);
       count = f .2;
       read = f .3;
     })

@@ -13,7 +13,7 @@ use Rattle.frame.specs.declared.Reading.{Reading}
 use Rattle.frame.specs.declared.Reading.the-variants as Readings
 use Rattle.port.specs.Record.{usedPort}
 use Rattle.port.specs.Receive.{notedPort}
-use Rattle.port.specs.Send.{sendingNo, filledBy}
+use Rattle.port.specs.Send.{sendingNo, sendingBytes}
 use Rattle.port.specs.declared.Preceding.the-variants.{Was}
 use Rattle.port.specs.declared.Sending.{Sending}
 use Rattle.table.specs.Table.{portAt}
@@ -111,7 +111,7 @@ pub send-keeps : (b : Bridge) (port t : ℕ) (out : List ℕ) → SendKeeps b po
 unfolding sendOf sendBytes sendingAt
 send-keeps b port t out =
     if-both (SendKeeps b port t out) (eqb (sendRefusal (b .setup .n) (b .links) port t (length out)) 0)
-    (λ _. record { early = λ z l. absurd (omega (arith, n z .least)); late = λ _. refl; output = λ z. ap (λ (x : Sending). filledBy x out) (n z .none) })
+    (λ _. record { early = λ z l. absurd (omega (arith, n z .least)); late = λ _. refl; output = λ z. ap (λ (x : Sending). sendingBytes x out) (n z .none) })
     (λ _. record { early = λ _ _. refl; late = λ l. absurd (omega (arith, send-most (b .setup .n) (b .links) port t (length out))); output = λ _. refl })
   where
     n : (sendingNo (sendingAt b (port - 1) (record { 0 = t })) ≡ 0 → ⊥) → NoFrame (sendingAt b (port - 1) (record { 0 = t }))

@@ -17,7 +17,7 @@ use Rattle.frame.specs.Read.{readOf}
 use Rattle.frame.specs.declared.Reading.{Reading}
 use Rattle.port.specs.Record.{agedPort}
 use Rattle.port.specs.Own.{ownReadingOf}
-use Rattle.port.specs.Send.{sentBy, filledBy}
+use Rattle.port.specs.Send.{sendingDone, sendingBytes}
 use Rattle.port.specs.declared.Port.{Port}
 use Rattle.port.specs.declared.PortDone.{PortDone}
 use Rattle.port.specs.declared.ClockDone.{ClockDone}
@@ -126,12 +126,12 @@ module _ (b : Bridge) (port t : ℕ) (out : List ℕ) (k : ℕ) (e : k ≡ sendR
   unfolding sendBytes
   send-untouched n = stops _ k e _ _ n
 
-  pub send-stores : (sent : PortDone) → k ≡ 0 → sent ≡ sentBy (sendingAt b (port - 1) (record { 0 = t })) (portAt (b .ports) (port - 1))
+  pub send-stores : (sent : PortDone) → k ≡ 0 → sent ≡ sendingDone (sendingAt b (port - 1) (record { 0 = t })) (portAt (b .ports) (port - 1))
       → storesPort b (port - 1) sent ≡ sendOf b port t (length out)
   unfolding sendOf
   send-stores sent z q = ap (storesPort b (port - 1)) q ∙ goes-on _ k e _ _ z
 
-  pub send-fills : k ≡ 0 → filledBy (sendingAt b (port - 1) (record { 0 = t })) out ≡ sendBytes b port t out
+  pub send-fills : k ≡ 0 → sendingBytes (sendingAt b (port - 1) (record { 0 = t })) out ≡ sendBytes b port t out
   unfolding sendBytes
   send-fills z = goes-on _ k e _ _ z
 
