@@ -6,7 +6,6 @@ use Prim.Native.Nat.{ℕ, zero, suc, _+_, _-_, _%_, _<_}
 use native.Mathlib.Nat.{zero-add}
 use native.Mathlib.Omega.{arith}
 use borrow.Author.Tests.{eqb-true, eqb-false}
-use lib.Count.{ones}
 use lib.Dec.{eqb, leb}
 use lib.ListN.{length, set, replicate, length-set}
 use lib.Seq.{getD-set-same, getD-set-other}
@@ -16,26 +15,25 @@ use Rattle.frame.specs.Read.{readOf}
 use Rattle.frame.specs.declared.Reading.{Reading}
 use Rattle.frame.specs.declared.Reading.the-variants as Readings
 use Rattle.port.specs.Record.{emptyPort, agedPort, usedPort}
-use Rattle.port.specs.Send.{sentBy}
 use Rattle.port.specs.declared.Port.{Port}
 use Rattle.table.specs.Table.{each, portAt, mostPorts, relinkedPort}
 use Rattle.table.specs.Arguments.{bit, portRefusal, sendRefusal, ownClockRefusal, maskBeyond}
 use Rattle.table.specs.Fits.{setupFits}
 use Rattle.table.specs.declared.Setup.{Setup}
-use Rattle.bridge.specs.State.{withLinks, answers, linked, storesPort}
+use Rattle.bridge.specs.State.{withPort}
 use Rattle.bridge.specs.Setup.{setupOf}
 use Rattle.bridge.specs.Links.{linksOf}
 use Rattle.bridge.specs.Own.{ownClockOf}
 use Rattle.bridge.specs.Receive.{readBy, receiveFieldsOf, receiveOf}
 use Rattle.bridge.specs.Age.{ageOf}
-use Rattle.bridge.specs.Send.{sendingAt, sendOf, sendBytes}
+use Rattle.bridge.specs.Send.{sendOf, sendBytes}
 use Rattle.bridge.specs.declared.Bridge.{Bridge}
 use Rattle.bridge.specs.declared.Done.{Done}
 use Rattle.bridge.specs.declared.Linked.{Linked}
-use Rattle.bridge.specs.declared.LinkCount.the-variants.{Refused, Up}
 use Rattle.numbers.proofs.Branches.{if-when}
 use Rattle.port.proofs.PortLaws.{received-count, aged-count}
 use Rattle.table.proofs.Walk.{each-at, each-length}
+use Rattle.bridge.proofs.StateLaws.{if-both}
 use Rattle.bridge.proofs.Line.{sent-frame-count}
 
 -- ---- calls in a row
@@ -89,114 +87,83 @@ each-count f g k [] i = refl
 each-count f g k (a ∷ l) zero = g k a
 each-count f g k (a ∷ l) (suc i) = each-count f g (suc k) l i
 
-abbrev countAt : Bridge → ℕ → ℕ
-countAt b i = portAt (b .ports) i .count
+-- the port at index i has used up n frameCounts
+abbrev Used : ℕ → ℕ → Bridge → Type 0
+Used i n b = (i < length (b .ports)) × (portAt (b .ports) i .count ≡ n % 256)
 
 -- what holds of the state after a call
-module _ (b : Bridge) (i n : ℕ) (room : i < length (b .ports)) (e : countAt b i ≡ n % 256) where
-  links-count : (mask : ℕ) → countAt (after b (links mask)) i ≡ usedBy i b (links mask) n % 256
-  unfolding linksOf relinkedPort
-  links-count mask = go (maskBeyond (b .setup .n) mask)
-    where
-      down : (s : Bool) → cond s emptyPort (portAt (b .ports) i) .count ≡ cond s 0 n % 256
-      down true = refl
-      down false = e
+module _ (b : Bridge) (i n : ℕ) (u : Used i n b) where
+  -- one record replaced, or each, by one with the same next frameCount
+  set-used : (j : ℕ) (p : Port) → p .count ≡ portAt (b .ports) j .count → Used i n (withPort b j p)
+  set-used j p e = (rw (length-set (b .ports) j p) (u .0), replaced (b .ports) j p e i ∙ u .1)
 
+  links-used : (mask : ℕ) → Used i (usedBy i b (links mask) n) (after b (links mask))
+  unfolding linksOf relinkedPort
+  links-used mask =
+      if-both (λ (d : Linked) (m : ℕ). Used i m (d .next)) (maskBeyond (b .setup .n) mask) (λ _. u)
+      (λ _. (
+        rw (each-length (relinkedPort (b .links) mask) 0 (b .ports)) (u .0),
+        ap (λ (p : Port). p .count) changed
+            ∙ if-both (λ (p : Port) (m : ℕ). p .count ≡ m % 256) (eqb (bit (b .links) i) 1 && eqb (bit mask i) 0) (λ _. refl) (λ _. u .1),
+      ))
+    where
       changed : portAt (each (relinkedPort (b .links) mask) 0 (b .ports)) i ≡ relinkedPort (b .links) mask i (portAt (b .ports) i)
       changed =
-          each-at (relinkedPort (b .links) mask) 0 i (b .ports) emptyPort room
+          each-at (relinkedPort (b .links) mask) 0 i (b .ports) emptyPort (u .0)
           ∙ ap (λ (k : ℕ). relinkedPort (b .links) mask k (portAt (b .ports) i)) (zero-add i)
 
-      go : (r : Bool) → countAt (cond r (linked Refused b) (linked (Up (ones mask)) (withLinks b mask (each (relinkedPort (b .links) mask) 0 (b .ports)))) .next) i
-          ≡ cond r n (cond (eqb (bit (b .links) i) 1 && eqb (bit mask i) 0) 0 n) % 256
-      go true = e
-      go false = ap (λ (p : Port). p .count) changed ∙ down (eqb (bit (b .links) i) 1 && eqb (bit mask i) 0)
-
-  own-clock-count : (count seconds fraction at : ℕ) → countAt (ownClockOf b count seconds fraction at .next) i ≡ n % 256
-  unfolding ownClockOf
-  own-clock-count count seconds fraction at =
-      if-when (λ (d : Done). countAt (d .next) i ≡ n % 256) (eqb (ownClockRefusal (b .setup .capable) seconds fraction at) 0) (λ _. e) (λ _. e)
-
-  receive-count : (port : ℕ) (frame : List ℕ) (arrival : ℕ) → countAt (receiveOf b port frame arrival .next) i ≡ n % 256
+  receive-used : (port : ℕ) (frame : List ℕ) (arrival : ℕ) → Used i n (receiveOf b port frame arrival .next)
   unfolding receiveOf receiveFieldsOf
-  receive-count port frame arrival =
-      if-when (λ (d : Done). countAt (d .next) i ≡ n % 256) (eqb (portRefusal (b .setup .n) (b .links) port arrival) 0) (λ _. by (readOf frame)) (λ _. e)
+  receive-used port frame arrival =
+      if-when (λ (d : Done). Used i n (d .next)) (eqb (portRefusal (b .setup .n) (b .links) port arrival) 0) (λ _. by (readOf frame)) (λ _. u)
     where
-      by : (r : Reading) → countAt (readBy b (port - 1) r (record { 0 = arrival }) .next) i ≡ n % 256
-      by (Readings.Refused k) = e
-      by (Readings.Frame f) = replaced (b .ports) (port - 1) _ (received-count _ _ f _ (portAt (b .ports) (port - 1))) i ∙ e
+      by : (r : Reading) → Used i n (readBy b (port - 1) r (record { 0 = arrival }) .next)
+      by (Readings.Refused k) = u
+      by (Readings.Frame f) = set-used (port - 1) _ (received-count _ _ f _ (portAt (b .ports) (port - 1)))
 
-  age-count : (at : ℕ) → countAt (ageOf b at .next) i ≡ n % 256
-  unfolding ageOf
-  age-count at =
-      if-when (λ (d : Done). countAt (d .next) i ≡ n % 256) (leb circle at) (λ _. e)
-      (λ _. each-count (λ _. agedPort (record { 0 = at }) (b .setup .timeout)) (λ _ p. aged-count (record { 0 = at }) (b .setup .timeout) p) 0 (b .ports) i ∙ e)
-
-  send-count : (port t room : ℕ) → countAt (after b (send port t room)) i ≡ usedBy i b (send port t room) n % 256
+  send-used : (port t room : ℕ) → Used i (usedBy i b (send port t room) n) (after b (send port t room))
   unfolding sendOf
-  send-count port t space = go (eqb (sendRefusal (b .setup .n) (b .links) port t space) 0)
+  send-used port t room =
+      if-both (λ (d : Done) (m : ℕ). Used i m (d .next)) (eqb (sendRefusal (b .setup .n) (b .links) port t room) 0)
+      (λ _. (rw (length-set (b .ports) (port - 1) (usedPort (portAt (b .ports) (port - 1)))) (u .0), by (eqb (port - 1) i) refl))
+      (λ _. u)
     where
-      after-use : ℕ → List Port
-      after-use j = set (b .ports) j (usedPort (portAt (b .ports) j))
-
-      by : (s : Bool) → eqb (port - 1) i ≡ s → portAt (after-use (port - 1)) i .count ≡ cond s (n + 1) n % 256
+      by : (s : Bool) → eqb (port - 1) i ≡ s → portAt (set (b .ports) (port - 1) (usedPort (portAt (b .ports) (port - 1)))) i .count ≡ cond s (n + 1) n % 256
       by true q =
-          let same : port - 1 ≡ i = eqb-true _ _ q in
-          ap (λ (j : ℕ). portAt (after-use j) i .count) same
-          ∙ ap (λ (p : Port). p .count) (getD-set-same (b .ports) i (usedPort (portAt (b .ports) i)) emptyPort room)
-          ∙ omega (arith, e)
-      by false q = ap (λ (p : Port). p .count) (getD-set-other (b .ports) (port - 1) i (usedPort (portAt (b .ports) (port - 1))) emptyPort (λ z. eqb-false _ _ q (sym z))) ∙ e
+          ap (λ (j : ℕ). portAt (set (b .ports) j (usedPort (portAt (b .ports) j))) i .count) (eqb-true _ _ q)
+          ∙ ap (λ (p : Port). p .count) (getD-set-same (b .ports) i (usedPort (portAt (b .ports) i)) emptyPort (u .0))
+          ∙ omega (arith, u .1)
+      by false q = ap (λ (p : Port). p .count) (getD-set-other (b .ports) (port - 1) i (usedPort (portAt (b .ports) (port - 1))) emptyPort (λ z. eqb-false _ _ q (sym z))) ∙ u .1
 
-      go : (r : Bool)
-          → countAt (cond r (storesPort b (port - 1) (sentBy (sendingAt b (port - 1) (record { 0 = t })) (portAt (b .ports) (port - 1)))) (answers (sendRefusal (b .setup .n) (b .links) port t space) b) .next) i
-          ≡ cond r (cond (eqb (port - 1) i) (n + 1) n) n % 256
-      go true = by (eqb (port - 1) i) refl
-      go false = e
-
-  after-count : (c : Call) → countAt (after b c) i ≡ usedBy i b c n % 256
-  after-count (links mask) = links-count mask
-  after-count (own-clock count seconds fraction at) = own-clock-count count seconds fraction at
-  after-count (receive port frame arrival) = receive-count port frame arrival
-  after-count (age at) = age-count at
-  after-count (send port t room) = send-count port t room
-
--- no call changes how many records there are
-after-length : (b : Bridge) (c : Call) → length (after b c .ports) ≡ length (b .ports)
-unfolding linksOf ownClockOf receiveOf receiveFieldsOf ageOf sendOf
-after-length b (links mask) =
-    if-when (λ (d : Linked). length (d .next .ports) ≡ length (b .ports)) (maskBeyond (b .setup .n) mask) (λ _. refl) (λ _. each-length (relinkedPort (b .links) mask) 0 (b .ports))
-after-length b (own-clock count seconds fraction at) =
-    if-when (λ (d : Done). length (d .next .ports) ≡ length (b .ports)) (eqb (ownClockRefusal (b .setup .capable) seconds fraction at) 0) (λ _. refl) (λ _. refl)
-after-length b (receive port frame arrival) =
-    if-when (λ (d : Done). length (d .next .ports) ≡ length (b .ports)) (eqb (portRefusal (b .setup .n) (b .links) port arrival) 0) (λ _. by (readOf frame)) (λ _. refl)
-  where
-    by : (r : Reading) → length (readBy b (port - 1) r (record { 0 = arrival }) .next .ports) ≡ length (b .ports)
-    by (Readings.Refused k) = refl
-    by (Readings.Frame f) = length-set (b .ports) _ _
-after-length b (age at) =
-    if-when (λ (d : Done). length (d .next .ports) ≡ length (b .ports)) (leb circle at) (λ _. refl) (λ _. each-length _ 0 (b .ports))
-after-length b (send port t room) =
-    if-when (λ (d : Done). length (d .next .ports) ≡ length (b .ports)) (eqb (sendRefusal (b .setup .n) (b .links) port t room) 0) (λ _. length-set (b .ports) _ _) (λ _. refl)
+  after-used : (c : Call) → Used i (usedBy i b c n) (after b c)
+  unfolding ownClockOf ageOf
+  after-used (links mask) = links-used mask
+  after-used (own-clock count seconds fraction at) =
+      if-when (λ (d : Done). Used i n (d .next)) (eqb (ownClockRefusal (b .setup .capable) seconds fraction at) 0) (λ _. u) (λ _. u)
+  after-used (receive port frame arrival) = receive-used port frame arrival
+  after-used (age at) =
+      if-when (λ (d : Done). Used i n (d .next)) (leb circle at) (λ _. u)
+      (λ _. (
+        rw (each-length (λ _. agedPort (record { 0 = at }) (b .setup .timeout)) 0 (b .ports)) (u .0),
+        each-count (λ _. agedPort (record { 0 = at }) (b .setup .timeout)) (λ _ p. aged-count (record { 0 = at }) (b .setup .timeout) p) 0 (b .ports) i ∙ u .1,
+      ))
+  after-used (send port t room) = send-used port t room
 
 -- ---- from Setup on
 
-run-count : (b : Bridge) (cs : List Call) (i n : ℕ) → i < length (b .ports) → countAt b i ≡ n % 256 → countAt (run b cs) i ≡ used i b cs n % 256
+run-used : (b : Bridge) (cs : List Call) (i n : ℕ) → Used i n b → Used i (used i b cs n) (run b cs)
 unfolding run used
-run-count b [] i n h e = e
-run-count b (c ∷ cs) i n h e = run-count (after b c) cs i (usedBy i b c n) (rw (after-length b c) h) (after-count b i n h e c)
+run-used b [] i n u = u
+run-used b (c ∷ cs) i n u = run-used (after b c) cs i (usedBy i b c n) (after-used b i n u c)
 
 fresh-count : (n i : ℕ) → portAt (replicate n emptyPort) i .count ≡ 0
 fresh-count zero i = refl
 fresh-count (suc n) zero = refl
 fresh-count (suc n) (suc i) = fresh-count n i
 
-setup-count : (s : Setup) (i : ℕ) → countAt (setupOf s .next) i ≡ 0
+setup-used : (s : Setup) (i : ℕ) → i < mostPorts → Used i 0 (setupOf s .next)
 unfolding setupOf
-setup-count s i = if-when (λ (d : Done). countAt (d .next) i ≡ 0) (setupFits s) (λ _. fresh-count mostPorts i) (λ _. fresh-count mostPorts i)
-
-setup-length : (s : Setup) → length (setupOf s .next .ports) ≡ mostPorts
-unfolding setupOf
-setup-length s = if-when (λ (d : Done). length (d .next .ports) ≡ mostPorts) (setupFits s) (λ _. refl) (λ _. refl)
+setup-used s i h = if-when (λ (d : Done). Used i 0 (d .next)) (setupFits s) (λ _. (h, fresh-count mostPorts i)) (λ _. (h, fresh-count mostPorts i))
 
 -- the frameCount of every frame that is sent after any calls since Setup
 pub sent-count : (s : Setup) (cs : List Call) (port t : ℕ) (out : List ℕ)
@@ -204,5 +171,5 @@ pub sent-count : (s : Setup) (cs : List Call) (port t : ℕ) (out : List ℕ)
     port - 1 < mostPorts → sendOf (run b cs) port t (length out) .answer ≡ 0 → numberAt (sendBytes (run b cs) port t out) 30 1 ≡ used (port - 1) b cs 0 % 256
 sent-count s cs port t out h e =
     let b = setupOf s .next in
-    let c : countAt (run b cs) (port - 1) ≡ used (port - 1) b cs 0 % 256 = run-count b cs (port - 1) 0 (rw (setup-length s) h) (setup-count s (port - 1)) in
+    let c = run-used b cs (port - 1) 0 (setup-used s (port - 1) h) .1 in
     sent-frame-count (run b cs) port t out (omega (arith, c)) e ∙ c

@@ -11,9 +11,7 @@ use lib.Pow.{pow-pos}
 use Rattle.times.specs.Times.{circle}
 use Rattle.times.specs.declared.LocalTime.{LocalTime}
 use Rattle.line.specs.Sent.{longestElapsed}
-use Rattle.frame.specs.Frame.{frameLength}
 use Rattle.frame.specs.Read.{readOf}
-use Rattle.frame.specs.Write.{writeRefusal}
 use Rattle.frame.specs.declared.Fields.{Fields}
 use Rattle.frame.specs.declared.Reading.{Reading}
 use Rattle.frame.specs.declared.Reading.the-variants.{Frame, Refused}
@@ -21,7 +19,6 @@ use Rattle.port.specs.Record.{emptyPort}
 use Rattle.port.specs.Lawful.{LawfulPort, LawfulClock, FieldsInRange}
 use Rattle.port.specs.declared.Port.{Port}
 use Rattle.port.specs.declared.OwnClock.{OwnClock}
-use Rattle.port.specs.declared.Sending.the-variants as Sendings
 use Rattle.table.specs.Table.{each, portAt, mostPorts, relinkedPort}
 use Rattle.table.specs.Arguments.{bit, portRefusal, sendRefusal, ownClockRefusal, maskBeyond}
 use Rattle.table.specs.Fits.{leastTimeout, greatestTimeout, setupFits, noSetup}
@@ -32,14 +29,14 @@ use Rattle.bridge.specs.Links.{linksOf}
 use Rattle.bridge.specs.Own.{ownClockOf}
 use Rattle.bridge.specs.Receive.{receiveFieldsOf, readBy, receiveOf}
 use Rattle.bridge.specs.Age.{ageOf}
-use Rattle.bridge.specs.Send.{sendingAt, sendOf}
+use Rattle.bridge.specs.Send.{sendOf}
 use Rattle.bridge.specs.declared.Bridge.{Bridge}
 use Rattle.bridge.specs.declared.Done.{Done}
 use Rattle.bridge.specs.declared.Linked.{Linked}
 use Rattle.numbers.proofs.Places.{Bytes}
 use Rattle.numbers.proofs.Branches.{if-when}
 use Rattle.times.proofs.TestLaws.{both-hold}
-use Rattle.port.proofs.PortLaws.{empty-lawful, used-lawful, aged-lawful, received-lawful, own-reading-lawful, read-in-range, sending-written}
+use Rattle.port.proofs.PortLaws.{empty-lawful, used-lawful, aged-lawful, received-lawful, own-reading-lawful, read-in-range}
 use Rattle.table.proofs.Walk.{each-length, each-all, set-all}
 use Rattle.table.proofs.CheckLaws.{port-ready, own-ready}
 
@@ -155,9 +152,3 @@ send-lawful b port t room h =
     if-when Next (eqb (sendRefusal (b .setup .n) (b .links) port t room) 0)
     (λ _. port-kept b (port - 1) _ h (used-lawful _ (h .ports-lawful (port - 1))))
     (λ _. h)
-
--- a frame that is sent is one that Write takes
-pub sending-written-at : (b : Bridge) (i : ℕ) (t : LocalTime) (room : ℕ) → t .0 < circle → Lawful b → frameLength ≤ room
-    → (f : Fields) → sendingAt b i t ≡ Sendings.Frame f → writeRefusal f room ≡ 0
-unfolding sendingAt
-sending-written-at b i t room ht h r f e = sending-written _ _ _ _ t (portAt (b .ports) i) room f ht (h .ports-lawful i) r e

@@ -1,10 +1,9 @@
 -- Demand 3 on the frame: where Send answers 0, the ten bytes of grandTime that it wrote lie less than 17 U from the exact line
 -- through the oldest and the newest kept sample of the chosen clock, read at t less backTime, plus backTime, across the wrap.
-use mathlib.Core.Path.{_≡_, refl, sym, ap, _∙_, subst}
-use mathlib.Core.Bool.{Bool, true, false, cond}
+use mathlib.Core.Path.{_≡_, sym, ap, _∙_, subst}
 use mathlib.Core.List.{List}
-use Prim.Native.Nat.{ℕ, _-_, _<_}
-use borrow.Author.Tests.{eqb-false}
+use Prim.Native.Nat.{ℕ, _-_, _<_, _≤_}
+use borrow.Author.Tests.{eqb-true, eqb-false}
 use lib.Dec.{eqb}
 use lib.IntN.{pos}
 use lib.ListN.{length, drop}
@@ -16,20 +15,24 @@ use Rattle.samples.specs.declared.Ends.the-variants.{Both}
 use Rattle.line.specs.Sent.{reachOf}
 use Rattle.line.specs.Line.{NearLine}
 use Rattle.frame.specs.Frame.{frameLength}
-use Rattle.frame.specs.Write.{bytesOf}
+use Rattle.frame.specs.Write.{writeRefusal, bytesOf}
 use Rattle.frame.specs.declared.Fields.{Fields}
-use Rattle.port.specs.Send.{sentBy, filledBy}
+use Rattle.port.specs.Send.{sendingBytes}
 use Rattle.port.specs.declared.Sending.{Sending}
+use Rattle.port.specs.declared.Sending.the-variants.{Frame}
 use Rattle.table.specs.Table.{portAt}
 use Rattle.table.specs.Arguments.{sendRefusal}
-use Rattle.bridge.specs.State.{Lawful, answers, storesPort}
+use Rattle.bridge.specs.State.{Lawful}
 use Rattle.bridge.specs.Chosen.{chosenOf}
 use Rattle.bridge.specs.Send.{chosenSamples, sendingAt, sendOf, sendBytes}
 use Rattle.bridge.specs.declared.Bridge.{Bridge}
+use Rattle.bridge.specs.declared.Done.{Done}
 use Rattle.line.proofs.SentLaws.{sent-near}
 use Rattle.frame.proofs.Trip.{grand-bytes, count-byte}
-use Rattle.port.proofs.PortLaws.{ReadOff, sending-read-off}
+use Rattle.port.proofs.PortLaws.{ReadOff, sending-read-off, sending-written}
+use Rattle.table.proofs.CheckLaws.{Ready, send-ready}
 use Rattle.table.proofs.TableLaws.{chosen-lawful}
+use Rattle.bridge.proofs.StateLaws.{if-both}
 
 -- grandTime stands in these bytes of a frame
 abbrev pub grandStart : ℕ
@@ -45,32 +48,30 @@ pub record OnLine (b : Bridge) (t : ℕ) (bytes : List ℕ) : Type 0 where
   pub kept : endsOf (chosenSamples b) ≡ Both older newer
   pub near : NearLine older newer (pos (numberAt bytes grandStart grandBytes)) (reachOf (sinceOf (record { 0 = t }) (newer .local)) (b .setup .back)) (b .setup .back)
 
--- what a send that answers 0 wrote: a frame that was composed, with the port's next frameCount
-pub record Wrote (b : Bridge) (port t : ℕ) (out : List ℕ) : Type 0 where
+-- what a send that answers 0 left in the output: a frame, with the port's next frameCount
+pub record Wrote (b : Bridge) (port t : ℕ) (out left : List ℕ) : Type 0 where
   pub fields : Fields
-  pub bytes : sendBytes b port t out ≡ bytesOf fields (drop frameLength out)
+  pub ready : Ready (b .setup .n) port t × (frameLength ≤ length out)
+  pub sending : sendingAt b (port - 1) (record { 0 = t }) ≡ Frame fields
+  pub bytes : left ≡ bytesOf fields (drop frameLength out)
   pub count : fields .count ≡ portAt (b .ports) (port - 1) .count
   pub read : ReadOff (chosenSamples b) (record { 0 = t }) (b .setup .back) fields
 
-pub wrote : (b : Bridge) (port t : ℕ) (out : List ℕ) → sendOf b port t (length out) .answer ≡ 0 → Wrote b port t out
+pub wrote : (b : Bridge) (port t : ℕ) (out : List ℕ) → sendOf b port t (length out) .answer ≡ 0 → Wrote b port t out (sendBytes b port t out)
 unfolding sendOf sendBytes sendingAt
-wrote b port t out = go (eqb (sendRefusal (b .setup .n) (b .links) port t (length out)) 0) refl
-  where
-    s : Sending
-    s = sendingAt b (port - 1) (record { 0 = t })
-
-    go : (r : Bool) → eqb (sendRefusal (b .setup .n) (b .links) port t (length out)) 0 ≡ r
-        → cond r (storesPort b (port - 1) (sentBy s (portAt (b .ports) (port - 1)))) (answers (sendRefusal (b .setup .n) (b .links) port t (length out)) b) .answer ≡ 0
-        → Wrote b port t out
-    go true q z =
-        let f = sending-read-off (chosenOf b) (chosenSamples b) (b .setup .mac) (b .setup .back) (record { 0 = t }) (portAt (b .ports) (port - 1)) z in
-        record {
-          fields = f .0;
-          bytes = ap (λ (x : Bool). cond x (filledBy s out) out) q ∙ ap (λ (x : Sending). filledBy x out) (f .1);
-          count = f .2;
-          read = f .3;
-        }
-    go false q z = absurd (eqb-false _ _ q z)
+wrote b port t out =
+    if-both (λ (d : Done) (left : List ℕ). d .answer ≡ 0 → Wrote b port t out left) (eqb (sendRefusal (b .setup .n) (b .links) port t (length out)) 0)
+    (λ q z.
+    let f = sending-read-off (chosenOf b) (chosenSamples b) (b .setup .mac) (b .setup .back) (record { 0 = t }) (portAt (b .ports) (port - 1)) z in
+    record {
+      fields = f .0;
+      ready = send-ready (b .setup .n) (b .links) port t (length out) (eqb-true _ _ q);
+      sending = f .1;
+      bytes = ap (λ (x : Sending). sendingBytes x out) (f .1);
+      count = f .2;
+      read = f .3;
+    })
+    (λ q z. absurd (eqb-false _ _ q z))
 
 -- DEMAND 3
 pub sent-frame-near : (b : Bridge) (port t : ℕ) (out : List ℕ) → Lawful b → sendOf b port t (length out) .answer ≡ 0 → OnLine b t (sendBytes b port t out)
@@ -89,6 +90,14 @@ sent-frame-near b port t out h e =
           subst (λ (n : ℕ). NearLine (r .oldest) (r .newest) (pos n) (reachOf (sinceOf (record { 0 = t }) (r .newest .local)) (b .setup .back)) (b .setup .back)) number
           (sent-near (chosenSamples b) (record { 0 = t }) (b .setup .back) (f .grand) (f .error) r lawful (h .back-small));
     }
+
+-- a frame that was sent is one that Write takes
+pub sent-frame-written : (b : Bridge) (port t : ℕ) (out : List ℕ) → Lawful b → (e : sendOf b port t (length out) .answer ≡ 0)
+    → writeRefusal (wrote b port t out e .fields) (length out) ≡ 0
+unfolding sendingAt
+sent-frame-written b port t out h e =
+    let w = wrote b port t out e in
+    sending-written _ _ _ _ (record { 0 = t }) (portAt (b .ports) (port - 1)) (length out) (w .fields) (w .ready .0 .time) (h .ports-lawful (port - 1)) (w .ready .1) (w .sending)
 
 -- byte 30 of a frame that was sent is the port's next frameCount
 pub sent-frame-count : (b : Bridge) (port t : ℕ) (out : List ℕ) → portAt (b .ports) (port - 1) .count < 256 → sendOf b port t (length out) .answer ≡ 0

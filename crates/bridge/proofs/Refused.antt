@@ -1,6 +1,6 @@
 -- Demand 1: what a refused call changes, call by call, is what document 01 names and nothing else.
 use mathlib.Core.Path.{_≡_, refl, ap, _∙_}
-use mathlib.Core.Bool.{Bool, true, false, cond}
+use mathlib.Core.Bool.{Bool, true, false}
 use mathlib.Core.List.{List}
 use Prim.Native.Nat.{ℕ, _-_, _≤_}
 use native.Mathlib.Omega.{arith}
@@ -13,14 +13,14 @@ use Rattle.frame.specs.declared.Reading.{Reading}
 use Rattle.frame.specs.declared.Reading.the-variants as Readings
 use Rattle.port.specs.Record.{usedPort}
 use Rattle.port.specs.Receive.{notedPort}
-use Rattle.port.specs.Send.{sendingNo, sentBy, filledBy}
+use Rattle.port.specs.Send.{sendingNo, sendingBytes}
 use Rattle.port.specs.declared.Preceding.the-variants.{Was}
 use Rattle.port.specs.declared.Sending.{Sending}
 use Rattle.table.specs.Table.{portAt}
 use Rattle.table.specs.Arguments.{portRefusal, sendRefusal, ownClockRefusal, maskBeyond}
 use Rattle.table.specs.Fits.{setupFits}
 use Rattle.table.specs.declared.Setup.{Setup}
-use Rattle.bridge.specs.State.{withPort, withClock, answers, storesPort}
+use Rattle.bridge.specs.State.{withPort, withClock}
 use Rattle.bridge.specs.Setup.{noBridge, setupOf}
 use Rattle.bridge.specs.Links.{linksOf}
 use Rattle.bridge.specs.Own.{ownClockOf}
@@ -34,6 +34,7 @@ use Rattle.bridge.specs.declared.LinkCount.the-variants.{Refused}
 use Rattle.numbers.proofs.Branches.{if-when}
 use Rattle.port.proofs.PortLaws.{received-refused, own-reading-refused, NoFrame, sending-refused}
 use Rattle.table.proofs.CheckLaws.{port-most, send-most}
+use Rattle.bridge.proofs.StateLaws.{if-both}
 
 -- setup, 1: what stands for no state
 pub setup-none : (s : Setup) → (setupOf s .answer ≡ 0 → ⊥) → setupOf s .next ≡ noBridge
@@ -108,17 +109,10 @@ pub record SendKeeps (b : Bridge) (port t : ℕ) (out : List ℕ) (d : Done) (le
 
 pub send-keeps : (b : Bridge) (port t : ℕ) (out : List ℕ) → SendKeeps b port t out (sendOf b port t (length out)) (sendBytes b port t out)
 unfolding sendOf sendBytes sendingAt
-send-keeps b port t out = go (eqb (sendRefusal (b .setup .n) (b .links) port t (length out)) 0)
+send-keeps b port t out =
+    if-both (SendKeeps b port t out) (eqb (sendRefusal (b .setup .n) (b .links) port t (length out)) 0)
+    (λ _. record { early = λ z l. absurd (omega (arith, n z .least)); late = λ _. refl; output = λ z. ap (λ (x : Sending). sendingBytes x out) (n z .none) })
+    (λ _. record { early = λ _ _. refl; late = λ l. absurd (omega (arith, send-most (b .setup .n) (b .links) port t (length out))); output = λ _. refl })
   where
-    s : Sending
-    s = sendingAt b (port - 1) (record { 0 = t })
-
-    n : (sendingNo s ≡ 0 → ⊥) → NoFrame s
+    n : (sendingNo (sendingAt b (port - 1) (record { 0 = t })) ≡ 0 → ⊥) → NoFrame (sendingAt b (port - 1) (record { 0 = t }))
     n = sending-refused _ _ _ _ _ _
-
-    go : (r : Bool)
-        → SendKeeps b port t out
-        (cond r (storesPort b (port - 1) (sentBy s (portAt (b .ports) (port - 1)))) (answers (sendRefusal (b .setup .n) (b .links) port t (length out)) b))
-        (cond r (filledBy s out) out)
-    go true = record { early = λ z l. absurd (omega (arith, n z .least)); late = λ _. refl; output = λ z. ap (λ (x : Sending). filledBy x out) (n z .none) }
-    go false = record { early = λ _ _. refl; late = λ l. absurd (omega (arith, send-most (b .setup .n) (b .links) port t (length out))); output = λ _. refl }

@@ -1,5 +1,5 @@
 -- Laws of the calls: what each definition comes to, case by case.
-use mathlib.Core.Path.{_≡_, sym, ap, _∙_}
+use mathlib.Core.Path.{_≡_, refl, sym, ap, _∙_}
 use mathlib.Core.Bool.{Bool, true, false, cond}
 use mathlib.Core.List.{List}
 use Prim.Native.Nat.{ℕ, _+_, _-_, _<_, _≤_}
@@ -17,7 +17,7 @@ use Rattle.frame.specs.Read.{readOf}
 use Rattle.frame.specs.declared.Reading.{Reading}
 use Rattle.port.specs.Record.{agedPort}
 use Rattle.port.specs.Own.{ownReadingOf}
-use Rattle.port.specs.Send.{sentBy, filledBy}
+use Rattle.port.specs.Send.{sendingDone, sendingBytes}
 use Rattle.port.specs.declared.Port.{Port}
 use Rattle.port.specs.declared.PortDone.{PortDone}
 use Rattle.port.specs.declared.ClockDone.{ClockDone}
@@ -51,6 +51,11 @@ module _ {A : Type 0} (want k : ℕ) (e : k ≡ want) where
 
 refuses : (b : Bridge) (want k : ℕ) (x : Done) → k ≡ want → (k ≡ 0 → ⊥) → answers k b ≡ refusedOr b want x
 refuses b want k x e n = ap (λ (j : ℕ). answers j b) e ∙ stops want k e x (answers want b) n
+
+-- what holds of two things that one test decides holds by its branches
+pub if-both : {A B : Type 0} (P : A → B → Type 0) (r : Bool) {x y : A} {u v : B} → (r ≡ true → P x u) → (r ≡ false → P y v) → P (cond r x y) (cond r u v)
+if-both P true f g = f refl
+if-both P false f g = g refl
 
 -- ---- setup
 
@@ -121,12 +126,12 @@ module _ (b : Bridge) (port t : ℕ) (out : List ℕ) (k : ℕ) (e : k ≡ sendR
   unfolding sendBytes
   send-untouched n = stops _ k e _ _ n
 
-  pub send-stores : (sent : PortDone) → k ≡ 0 → sent ≡ sentBy (sendingAt b (port - 1) (record { 0 = t })) (portAt (b .ports) (port - 1))
+  pub send-stores : (sent : PortDone) → k ≡ 0 → sent ≡ sendingDone (sendingAt b (port - 1) (record { 0 = t })) (portAt (b .ports) (port - 1))
       → storesPort b (port - 1) sent ≡ sendOf b port t (length out)
   unfolding sendOf
   send-stores sent z q = ap (storesPort b (port - 1)) q ∙ goes-on _ k e _ _ z
 
-  pub send-fills : k ≡ 0 → filledBy (sendingAt b (port - 1) (record { 0 = t })) out ≡ sendBytes b port t out
+  pub send-fills : k ≡ 0 → sendingBytes (sendingAt b (port - 1) (record { 0 = t })) out ≡ sendBytes b port t out
   unfolding sendBytes
   send-fills z = goes-on _ k e _ _ z
 

@@ -4,9 +4,10 @@ use mathlib.Core.List.{List}
 use Prim.Native.Nat.{ℕ, _-_}
 use lib.Dec.{eqb}
 use lib.ListN.{length}
+use Rattle.refusals.specs.Refusals.{done}
 use Rattle.times.specs.declared.LocalTime.{LocalTime}
 use Rattle.samples.specs.declared.Samples.{Samples}
-use Rattle.port.specs.Send.{sendingOf, sentBy, filledBy}
+use Rattle.port.specs.Send.{sendingOf, sendingDone, sendingBytes}
 use Rattle.port.specs.declared.Sending.{Sending}
 use Rattle.table.specs.Table.{portAt, samplesOfChoice}
 use Rattle.table.specs.Arguments.{sendRefusal}
@@ -27,9 +28,9 @@ sendingAt b i t = sendingOf (chosenOf b) (chosenSamples b) (b .setup .mac) (b .s
 unfoldable pub sendOf : Bridge → ℕ → ℕ → ℕ → Done
 sendOf b port t room =
     refusedOr b (sendRefusal (b .setup .n) (b .links) port t room)
-    (storesPort b (port - 1) (sentBy (sendingAt b (port - 1) (record { 0 = t })) (portAt (b .ports) (port - 1))))
+    (storesPort b (port - 1) (sendingDone (sendingAt b (port - 1) (record { 0 = t })) (portAt (b .ports) (port - 1))))
 
 -- the frame over the first 64 bytes of the output; every refusal leaves it as it was
 unfoldable pub sendBytes : Bridge → ℕ → ℕ → List ℕ → List ℕ
 sendBytes b port t out =
-    cond (eqb (sendRefusal (b .setup .n) (b .links) port t (length out)) 0) (filledBy (sendingAt b (port - 1) (record { 0 = t })) out) out
+    cond (eqb (sendRefusal (b .setup .n) (b .links) port t (length out)) done) (sendingBytes (sendingAt b (port - 1) (record { 0 = t })) out) out

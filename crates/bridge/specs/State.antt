@@ -5,6 +5,7 @@ use mathlib.Core.List.{List}
 use Prim.Native.Nat.{ℕ, _^_, _<_, _≤_}
 use lib.Dec.{eqb}
 use lib.ListN.{length, set}
+use Rattle.refusals.specs.Refusals.{done}
 use Rattle.line.specs.Sent.{longestElapsed}
 use Rattle.port.specs.Lawful.{LawfulPort, LawfulClock}
 use Rattle.port.specs.declared.Port.{Port}
@@ -53,11 +54,11 @@ linked k b = record { answer = k; next = b }
 
 -- what a port or the own clock answers, with its record stored
 abbrev pub storesPort : Bridge → ℕ → PortDone → Done
-storesPort b i done = answers (done .answer) (withPort b i (done .port))
+storesPort b i d = answers (d .answer) (withPort b i (d .port))
 
 abbrev pub storesClock : Bridge → ClockDone → Done
-storesClock b done = answers (done .answer) (withClock b (done .clock))
+storesClock b d = answers (d .answer) (withClock b (d .clock))
 
 -- a refusal found before any record is looked at stores nothing; where it is 0, the call goes on
 abbrev pub refusedOr : Bridge → ℕ → Done → Done
-refusedOr b k done = cond (eqb k 0) done (answers k b)
+refusedOr b k d = cond (eqb k done) d (answers k b)

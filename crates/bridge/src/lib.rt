@@ -142,31 +142,8 @@ pub fn own_clock(b: Bridge, count: u8, seconds: u64, fraction: u64, at: u64) -> 
     }
 }
 
-// A frame that was read, on the port at index i.
-fn receive_fields(mut b: Bridge, i: usize, f: Fields, at: LocalTime) -> Done
-    requires { ⌜ Lawful b ⌝ }
-    requires { ⌜ i < 8 ⌝ }
-    requires { ⌜ FieldsInRange f ⌝ }
-    ensures { λ r. ⌜ r ≡ receiveFieldsOf b i f at ⌝ }
-{
-    let own = b.setup.own;
-    let ports = b.ports;
-    let hop = candidates::chosen_hop(records::choice(b.setup.capable, own, ports));
-    let port = b.ports[i];
-    let setup = b.setup;
-    let setting = setup.settings[i];
-    let delay = setting.delay;
-    let received = port::receive::receive(port, delay, hop, f, at);
-    let after = received.port;
-    b.ports[i] = after;
-    Done {
-        answer: received.answer,
-        next: b,
-    }
-}
-
 // Receive: a frame that arrived at a port.
-pub fn receive(b: Bridge, port: u8, frame: &[u8], arrival: u64) -> Done
+pub fn receive(mut b: Bridge, port: u8, frame: &[u8], arrival: u64) -> Done
     requires { ⌜ Lawful b ⌝ }
     ensures { λ r. ⌜ r ≡ receiveOf b port (now (frame .entry)) arrival ⌝ }
     ensures { λ r. ⌜ Lawful (r .next) ⌝ }
@@ -183,7 +160,23 @@ pub fn receive(b: Bridge, port: u8, frame: &[u8], arrival: u64) -> Done
             answer: unread,
             next: b,
         },
-        Reading::Frame(f) => receive_fields(b, (port - 1) as usize, f, LocalTime(arrival)),
+        Reading::Frame(f) => {
+            let setup = b.setup;
+            let own = setup.own;
+            let ports = b.ports;
+            let hop = candidates::chosen_hop(records::choice(setup.capable, own, ports));
+            let i = (port - 1) as usize;
+            let held = b.ports[i];
+            let setting = setup.settings[i];
+            let delay = setting.delay;
+            let received = port::receive::receive(held, delay, hop, f, LocalTime(arrival));
+            let after = received.port;
+            b.ports[i] = after;
+            Done {
+                answer: received.answer,
+                next: b,
+            }
+        }
     }
 }
 

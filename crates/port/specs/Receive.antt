@@ -27,7 +27,7 @@ use Rattle.port.specs.declared.PortDone.{PortDone}
 -- whether the announcement is of the clock with this precedence
 unfoldable pub sameClock : Announcement → Precedence → Bool
 sameClock Silent precedence = false
-sameClock (Announced held hop when) precedence = eqb (precedenceOf held) (precedenceOf precedence)
+sameClock (Announced held hop heardAt) precedence = eqb (precedenceOf held) (precedenceOf precedence)
 
 -- a refused frame: frameCount and arrival are stored as the next p, and nothing else
 abbrev pub notedPort : ℕ → LocalTime → Port → Port

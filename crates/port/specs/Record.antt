@@ -26,7 +26,7 @@ silenced port = record { preceding = port .preceding; announcement = Silent; sam
 -- Age on one port: an announcement heard a timeout ago or longer goes, with samples and echo
 abbrev pub agedBy : Announcement → LocalTime → ℕ → Port → Port
 agedBy Silent at timeout port = port
-agedBy (Announced precedence hop when) at timeout port = cond (ltb (sinceOf at when) timeout) port (silenced port)
+agedBy (Announced precedence hop heardAt) at timeout port = cond (ltb (sinceOf at heardAt) timeout) port (silenced port)
 
 unfoldable pub agedPort : LocalTime → ℕ → Port → Port
 agedPort at timeout port = agedBy (port .announcement) at timeout port

@@ -66,10 +66,10 @@ sendingNo (Refused k) = k
 sendingNo (Frame f) = done
 
 -- the answer, and the record whose next frameCount is used up, also by a refusal
-abbrev pub sentBy : Sending → Port → PortDone
-sentBy sending port = record { answer = sendingNo sending; port = usedPort port }
+abbrev pub sendingDone : Sending → Port → PortDone
+sendingDone sending port = record { answer = sendingNo sending; port = usedPort port }
 
 -- the frame over the first 64 bytes of the output; a refusal leaves it as it was
-abbrev pub filledBy : Sending → List ℕ → List ℕ
-filledBy (Refused k) out = out
-filledBy (Frame f) out = bytesOf f (drop frameLength out)
+abbrev pub sendingBytes : Sending → List ℕ → List ℕ
+sendingBytes (Refused k) out = out
+sendingBytes (Frame f) out = bytesOf f (drop frameLength out)

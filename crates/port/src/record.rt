@@ -41,8 +41,8 @@ pub fn aged(port: Port, at: LocalTime, timeout: u64) -> Port
     let announcement = port.announcement;
     match announcement {
         Announcement::Silent => port,
-        Announcement::Announced(_, _, when) => {
-            if local::since(at, when) < timeout {
+        Announcement::Announced(_, _, heard_at) => {
+            if local::since(at, heard_at) < timeout {
                 return port;
             }
             let preceding = port.preceding;

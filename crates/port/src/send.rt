@@ -5,7 +5,7 @@ ghost use lib.ListN.{length};
 ghost use Rattle.samples.specs.Keep.{LawfulSamples};
 ghost use Rattle.line.specs.Sent.{longestElapsed};
 ghost use Rattle.frame.specs.Frame.{frameLength};
-ghost use Rattle.port.specs.Send.{echoTx, echoRx, frameOf, sendingOf, sentBy, filledBy};
+ghost use Rattle.port.specs.Send.{echoTx, echoRx, frameOf, sendingOf, sendingDone, sendingBytes};
 use crate::Port;
 use crate::PortDone;
 use crate::Sending;
@@ -108,8 +108,8 @@ pub fn send(
     requires { ⌜ LawfulSamples samples ⌝ }
     requires { ⌜ back < longestElapsed ⌝ }
     requires { ⌜ frameLength ≤ length (now out) ⌝ }
-    ensures { λ r. ⌜ r ≡ sentBy (sendingOf choice samples mac back t port) port ⌝ }
-    ensures { λ _. ⌜ now (out .exit) ≡ filledBy (sendingOf choice samples mac back t port) (now (out .entry)) ⌝ }
+    ensures { λ r. ⌜ r ≡ sendingDone (sendingOf choice samples mac back t port) port ⌝ }
+    ensures { λ _. ⌜ now (out .exit) ≡ sendingBytes (sendingOf choice samples mac back t port) (now (out .entry)) ⌝ }
 {
     let mut after = port;
     after.count = local::next_count(port.count);

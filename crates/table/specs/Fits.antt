@@ -40,13 +40,14 @@ setupFits s =
 abbrev pub measuredSetting : Setting
 measuredSetting = record { delay = Measured }
 
--- a station that is not capable, whose ports all measure their delay, with zeros for address and precedence
+-- an address and a precedence of zeros
 abbrev pub noMac : Mac
 noMac = record { 0 = 0; 1 = 0; 2 = 0; 3 = 0; 4 = 0; 5 = 0 }
 
 abbrev pub noPrecedence : Precedence
 noPrecedence = record { priority1 = 0; source = 0; variance = 0; priority2 = 0; clock = 0 }
 
+-- a station that is not capable, whose ports all measure their delay
 abbrev pub plainSetup : ℕ → ℕ → ℕ → Setup
 plainSetup n timeout back = record {
   n = n;

@@ -7,7 +7,7 @@ use lib.ListN.{length}
 use Rattle.samples.specs.Keep.{LawfulSamples}
 use Rattle.choice.specs.declared.Candidate.{Candidate}
 use Rattle.frame.specs.Frame.{frameLength}
-use Rattle.port.specs.Send.{sendingOf, sentBy, filledBy}
+use Rattle.port.specs.Send.{sendingOf, sendingDone, sendingBytes}
 use Rattle.port.specs.declared.Sending.{Sending}
 use Rattle.table.specs.Table.{portAt, numberOf, samplesOfChoice}
 use Rattle.bridge.specs.Chosen.{chosenOf}
@@ -90,10 +90,10 @@ returns-2 c =
     let picked = m .samples-of-choice .ensures ∙ ap (λ (x : Candidate). samplesOfChoice x (a .t1 .clock) (a .t1 .ports)) (m .before .choice .ensures) in
     let same : sending ≡ sendingAt (a .t1) (a .port - 1) (record { 0 = a .t }) =
     λ i. sendingOf (m .before .choice .ensures i) (picked i) (a .t1 .setup .mac) (a .t1 .setup .back) (record { 0 = a .t }) (portAt (a .t1 .ports) (a .port - 1)) in
-    let stored = send-stores _ _ _ (a .out .now) _ (k .before .send-refusal .ensures) (d .send .result) (k .if1 .left) (d .send .ensures .0 ∙ ap (λ (x : Sending). sentBy x (portAt (a .t1 .ports) (a .port - 1))) same) in (
+    let stored = send-stores _ _ _ (a .out .now) _ (k .before .send-refusal .ensures) (d .send .result) (k .if1 .left) (d .send .ensures .0 ∙ ap (λ (x : Sending). sendingDone x (portAt (a .t1 .ports) (a .port - 1))) same) in (
       stored,
       (
-        d .send .ensures .1 ∙ ap (λ (x : Sending). filledBy x (a .out .now)) same ∙ send-fills _ _ _ (a .out .now) _ (k .before .send-refusal .ensures) (k .if1 .left),
+        d .send .ensures .1 ∙ ap (λ (x : Sending). sendingBytes x (a .out .now)) same ∙ send-fills _ _ _ (a .out .now) _ (k .before .send-refusal .ensures) (k .if1 .left),
         subst Next (sym stored) (send-lawful _ _ _ _ (s .pre)),
       ),
     )

@@ -5,7 +5,7 @@ use mathlib.Core.List.{List}
 use Prim.Native.Nat.{ℕ}
 use Rattle.times.specs.Times.{nextCount}
 use Rattle.port.specs.Record.{withCount}
-use Rattle.port.specs.Send.{sendingNo, sentBy, filledBy}
+use Rattle.port.specs.Send.{sendingNo, sendingDone, sendingBytes}
 use Rattle.port.specs.declared.Port.{Port}
 use Rattle.port.specs.declared.PortDone.{PortDone}
 use Rattle.port.specs.declared.Sending.{Sending}
@@ -29,8 +29,8 @@ put-requires c κs = search needs
 
 -- what is composed is as wanted, and so are the answer, the record and the output
 sent : {s want : Sending} {n : ℕ} (port : Port) (out : List ℕ) → s ≡ want → n ≡ nextCount (port .count)
-    → (_≡_ {A = PortDone} (record { answer = sendingNo s; port = withCount port n }) (sentBy want port)) × (filledBy s out ≡ filledBy want out)
-sent port out e k = (λ i. record { answer = sendingNo (e i); port = withCount port (k i) }, ap (λ (x : Sending). filledBy x out) e)
+    → (_≡_ {A = PortDone} (record { answer = sendingNo s; port = withCount port n }) (sendingDone want port)) × (sendingBytes s out ≡ sendingBytes want out)
+sent port out e k = (λ i. record { answer = sendingNo (e i); port = withCount port (k i) }, ap (λ (x : Sending). sendingBytes x out) e)
 
 returns : tie.Need-returns
 returns c =
