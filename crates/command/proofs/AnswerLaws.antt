@@ -1,19 +1,17 @@
 -- Laws of what a line is answered with: a drift is a number, and the better frame's bytes.
 use mathlib.Core.Path.{_≡_, refl, sym, ap, _∙_}
-use mathlib.Core.Bool.{Bool, true, false, not, cond, true≢false}
+use mathlib.Core.Bool.{Bool, true, false, true≢false}
 use mathlib.Core.List.{List, [], _∷_}
 use Prim.Native.Nat.{ℕ, zero, suc, _+_, _*_, _^_, _<_, _≤_}
 use native.Mathlib.Omega.{arith}
 use lib.ListN.{length, length-take}
-use lib.Dec.{T, ltb}
-use lib.Ieee.{Float, inf, isNan, Format, binary64, prec, emax, low, round, units, odd}
-use lib.IntN.{ℤ}
+use lib.Dec.{ltb}
+use lib.Ieee.{Float, inf, isNan, Format, prec, emax, low, round, units, odd}
 use denote.Ref.{RefT, now}
+use Rattle.numbers.proofs.Branches.{if-when}
 use Rattle.samples.specs.declared.Samples.{Samples}
 use Rattle.samples.specs.declared.Samples.the-variants.{Empty, One, Two}
 use Rattle.line.specs.Drift.{ppmOf, driftOf}
-use Rattle.samples.specs.Keep.{rateBetween}
-use Rattle.line.specs.declared.Drift.the-variants.{PartsPerMillion, Refused as noClock}
 use Rattle.frame.specs.Better.{standingOf, winnerOf, precedenceBytes, lies, pieceBy, betterPartOf}
 use Rattle.frame.specs.declared.Winner.{Winner}
 use Rattle.frame.specs.declared.Winner.the-variants.{Neither, First, Second}
@@ -22,7 +20,7 @@ use Rattle.bridge.specs.Drift.{driftAt}
 use Rattle.bridge.specs.declared.Bridge.{Bridge}
 use Rattle.columns.specs.Columns.{bytesLine}
 use Rattle.fields.specs.declared.Form.{Form}
-use Rattle.command.specs.Answer.{pieceOf, betterText, callOf, isLine, letterOf, formIn, answerOf}
+use Rattle.command.specs.Answer.{IsNumber, pieceOf, betterText, callOf, isLine, letterOf, formIn, answerOf}
 
 -- ---- a drift is a number
 
@@ -31,10 +29,6 @@ unfolding odd isNan
 odd-number d s zero k l = refl
 odd-number d s (suc q) k l = refl
 
-either-number : (b : Bool) (x y : Float) → isNan x ≡ false → isNan y ≡ false → isNan (cond b x y) ≡ false
-either-number true x y e k = e
-either-number false x y e k = k
-
 inf-number : (s : Bool) → isNan (inf s) ≡ false
 unfolding isNan
 inf-number s = refl
@@ -42,28 +36,21 @@ inf-number s = refl
 units-number : (f : Format) (s : Bool) (q k : ℕ) → isNan (units f s q k) ≡ false
 unfolding units
 units-number f s q k =
-    either-number (ltb (q * 2 ^ k) (2 ^ (low f + suc (emax f)))) (odd (suc (prec f)) s q k (low f)) (inf s) (odd-number (suc (prec f)) s q k (low f)) (inf-number s)
+    if-when (λ (x : Float). isNan x ≡ false) (ltb (q * 2 ^ k) (2 ^ (low f + suc (emax f)))) (λ t. odd-number (suc (prec f)) s q k (low f)) (λ t. inf-number s)
 
 round-number : (f : Format) (s : Bool) (n d : ℕ) → isNan (round f s n d) ≡ false
 unfolding round
 round-number f s n d = units-number f s _ _
 
-ppm-number : (r : ℤ) → isNan (ppmOf r) ≡ false
-unfolding ppmOf
-ppm-number r = round-number binary64 _ _ _
+samples-number : (s : Samples) → IsNumber (driftOf s)
+unfolding driftOf ppmOf
+samples-number Empty = tt
+samples-number (One a) = tt
+samples-number (Two a b) = rw round-number tt
 
-drift-by : (c : Bool) (s : Samples) (x : Float) → cond c noClock (driftOf s) ≡ PartsPerMillion x → T (not (isNan x))
-unfolding driftOf
-drift-by true s x e = let z : _≡_ {A = ℕ} 0 1 = cc in absurd (omega arith)
-drift-by false Empty x e = let z : _≡_ {A = ℕ} 0 1 = cc in absurd (omega arith)
-drift-by false (One a) x e = let z : _≡_ {A = ℕ} 0 1 = cc in absurd (omega arith)
-drift-by false (Two a b) x e =
-    let q : x ≡ ppmOf (rateBetween a b) = cc in
-    rw (q, ppm-number) tt
-
-pub drift-number : (b : Bridge) (p : ℕ) (x : Float) → driftAt b p ≡ PartsPerMillion x → T (not (isNan x))
+pub drift-number : (b : Bridge) (p : ℕ) → IsNumber (driftAt b p)
 unfolding driftAt
-drift-number b p x e = drift-by (ltb (b .n) p) (samplesAt p (b .clock) (b .ports)) x e
+drift-number b p = if-when IsNumber (ltb (b .n) p) (λ t. tt) (λ t. samples-number (samplesAt p (b .clock) (b .ports)))
 
 -- ---- the better frame's bytes
 

@@ -1,10 +1,10 @@
 -- What a line is answered with.
 use Prim.Native.Nat.{ℕ}
-use mathlib.Core.Bool.{Bool, false, cond}
+use mathlib.Core.Bool.{Bool, false, not, cond}
 use mathlib.Core.List.{List, [], _∷_}
 use lib.ListN.{length, take, drop, getD}
-use lib.Dec.{leb, eqb}
-use lib.Ieee.{toBits, binary64}
+use lib.Dec.{T, leb, eqb}
+use lib.Ieee.{isNan, toBits, binary64}
 use Rattle.refusals.specs.Refusals.{done, outOfRange}
 use Rattle.numbers.specs.Digits.{digits}
 use Rattle.line.specs.declared.Drift.{Drift}
@@ -67,6 +67,12 @@ noneByte = 255
 abbrev pub chosenText : Candidate → List ℕ
 chosenText Nothing = line2 noneByte noneByte
 chosenText (Clock p hop port) = line2 port hop
+
+-- a drift in parts per million is a number
+abbrev pub IsNumber : Drift → Type 0
+IsNumber noClock = Unit {0}
+IsNumber NoReading = Unit {0}
+IsNumber (PartsPerMillion x) = T (not (isNan x))
 
 abbrev pub driftText : Drift → List ℕ
 driftText noClock = line1 outOfRange

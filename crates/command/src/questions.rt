@@ -4,9 +4,8 @@ ghost use mathlib.Core.Bool.{not};
 ghost use Prim.Native.Nat.{_≤_};
 ghost use lib.ListN.{length, take, drop};
 ghost use lib.Dec.{T};
-ghost use lib.Ieee.{Float, isNan, toBits, binary64};
+ghost use lib.Ieee.{isNan, toBits, binary64};
 ghost use Rattle.numbers.specs.Digits.{digits};
-ghost use Rattle.line.specs.declared.Drift.the-variants.{PartsPerMillion};
 ghost use Rattle.frame.specs.Read.{readOf};
 ghost use Rattle.bridge.specs.State.{Lawful};
 ghost use Rattle.bridge.specs.Chosen.{chosenOf};
@@ -15,7 +14,7 @@ ghost use Rattle.fields.specs.Field.{mostLength};
 ghost use Rattle.fields.specs.Form.{mostBytes};
 ghost use Rattle.columns.specs.Columns.{longestAnswer, lineWith, Prints};
 ghost use Rattle.command.specs.Argument.{numberIn, byteIn, sizeIn, fieldsIn, untouched};
-ghost use Rattle.command.specs.Answer.{chosenText, driftText, fieldValues, readText, writeText, betterText};
+ghost use Rattle.command.specs.Answer.{chosenText, IsNumber, driftText, fieldValues, readText, writeText, betterText};
 use crate::arguments;
 use crate::changes;
 use bridge::Bridge;
@@ -68,7 +67,7 @@ fn bits(x: f64, out: &mut [u8]) -> usize
 
 // Prints a drift.
 fn rate(drift: Drift, out: &mut [u8]) -> usize
-    requires { ⌜ ((x : Float) → drift ≡ PartsPerMillion x → T (not (isNan x))) ⌝ }
+    requires { ⌜ IsNumber drift ⌝ }
     requires { ⌜ longestAnswer ≤ length (now out) ⌝ }
     ensures { λ r. ⌜ Prints (driftText drift) r (now (out .entry)) (now (out .exit)) ⌝ }
 {

@@ -1,13 +1,17 @@
 -- By the letter.
 use borrow.Author.Tests.{ne-eqb}
-use Rattle.command.specs.Answer.{askedText}
 use borrow.Author.Needs.{needs}
+use Rattle.command.specs.Answer.{askedText}
 use Rattle.command.proofs.asked.Statement.{statement}
 use Rattle.command.proofs.asked.Tie as tie
 
-returns-6 : tie.Need-returns-6
+-- no call's letter
+rest : tie.Need-returns-6
 unfolding askedText
-returns-6 c = rw (ne-eqb _ _ (c .before .before .before .before .match .rest .0 .0 .0 .0 .1), ne-eqb _ _ (c .before .before .before .before .match .rest .0 .0 .0 .1), ne-eqb _ _ (c .before .before .before .before .match .rest .0 .0 .1), ne-eqb _ _ (c .before .before .before .before .match .rest .0 .1), ne-eqb _ _ (c .before .before .before .before .match .rest .1)) (c .before .before .one .ensures)
+rest c =
+    let a = c .before .before in
+    let n = a .before .before .match .rest in
+    rw (ne-eqb _ _ (n .0 .0 .0 .0 .1), ne-eqb _ _ (n .0 .0 .0 .1), ne-eqb _ _ (n .0 .0 .1), ne-eqb _ _ (n .0 .1), ne-eqb _ _ (n .1)) (a .one .ensures)
 
 pub asked-spec : {M : Type 1} → statement M
 unfolding askedText
@@ -31,4 +35,4 @@ asked-spec =
     (λ c. search needs)
     (λ c. rw (c .before .before .before .before .match .keys5) (c .before .before .better .ensures))
     (λ c. search needs)
-    returns-6)
+    rest)

@@ -1,14 +1,20 @@
 -- By the letter.
 use mathlib.Core.Path.{refl}
 use borrow.Author.Tests.{ne-eqb}
-use Rattle.command.specs.Answer.{callOf}
 use borrow.Author.Needs.{needs}
+use Rattle.command.specs.Answer.{callOf}
 use Rattle.command.proofs.call.Statement.{statement}
 use Rattle.command.proofs.call.Tie as tie
 
-returns-7 : tie.Need-returns-7
+-- a letter whose call leaves the state as it is
+rest : tie.Need-returns-7
 unfolding callOf
-returns-7 c = rw (ne-eqb _ _ (c .before .before .before .before .match .rest .0 .0 .0 .0 .0 .1), ne-eqb _ _ (c .before .before .before .before .match .rest .0 .0 .0 .0 .1), ne-eqb _ _ (c .before .before .before .before .match .rest .0 .0 .0 .1), ne-eqb _ _ (c .before .before .before .before .match .rest .0 .0 .1), ne-eqb _ _ (c .before .before .before .before .match .rest .0 .1), ne-eqb _ _ (c .before .before .before .before .match .rest .1)) (record { state = refl; prints = c .before .before .asked .ensures; lawful = c .before .before .before .before .before .before .pre .0 })
+rest c =
+    let a = c .before .before in
+    let m = a .before .before in
+    let n = m .match .rest in
+    rw (ne-eqb _ _ (n .0 .0 .0 .0 .0 .1), ne-eqb _ _ (n .0 .0 .0 .0 .1), ne-eqb _ _ (n .0 .0 .0 .1), ne-eqb _ _ (n .0 .0 .1), ne-eqb _ _ (n .0 .1), ne-eqb _ _ (n .1))
+    (record { state = refl; prints = a .asked .ensures; lawful = m .before .before .pre .0 })
 
 pub call-spec : {M : Type 1} → statement M
 unfolding callOf
@@ -35,4 +41,4 @@ call-spec =
     (λ c. search needs)
     (λ c. rw (c .before .before .before .before .match .keys6) (c .before .before .send .ensures))
     (λ c. search needs)
-    returns-7)
+    rest)

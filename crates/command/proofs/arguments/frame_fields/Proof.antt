@@ -6,10 +6,14 @@ use Rattle.command.proofs.arguments.frame_fields.Tie as tie
 
 returns : tie.Need-returns
 unfolding fieldsIn
-returns c = rw (c .before .before .before .before .before .before .before .before .before .mac .ensures, c .before .before .before .before .before .before .before .before .precedence .ensures, c .before .before .before .before .before .before .before .byte .ensures, c .before .before .before .before .before .before .byte2 .ensures, c .error .ensures)
+returns c =
+    let b = c .before .before .before .before .before .before in
+    let y = b .before in
+    let p = y .before in
+    let m = p .before in
+    rw (m .mac .ensures, p .precedence .ensures, y .byte .ensures, b .byte2 .ensures, c .error .ensures)
 
 pub frame-fields-spec : {M : Type 1} → statement M
-unfolding fieldsIn
 frame-fields-spec =
     tie.close
     (tie.spec

@@ -7,10 +7,17 @@ use Rattle.command.proofs.arguments.settings.Tie as tie
 
 returns : tie.Need-returns
 unfolding settingsIn
-returns c = λ i. c .before .before .before .before .before .before .before .setting .ensures i ∷ c .before .before .before .before .before .before .setting2 .ensures i ∷ c .before .before .before .before .before .setting3 .ensures i ∷ c .before .before .before .before .setting4 .ensures i ∷ c .before .before .before .setting5 .ensures i ∷ c .before .before .setting6 .ensures i ∷ c .before .setting7 .ensures i ∷ c .setting8 .ensures i ∷ []
+returns c =
+    let s = c .before in
+    let t = s .before in
+    let n = t .before in
+    let g = n .before in
+    let a = g .before in
+    let b = a .before in
+    let d = b .before in
+    λ i. d .setting .ensures i ∷ b .setting2 .ensures i ∷ a .setting3 .ensures i ∷ g .setting4 .ensures i ∷ n .setting5 .ensures i ∷ t .setting6 .ensures i ∷ s .setting7 .ensures i ∷ c .setting8 .ensures i ∷ []
 
 pub settings-spec : {M : Type 1} → statement M
-unfolding settingsIn
 settings-spec =
     tie.close
     (tie.spec

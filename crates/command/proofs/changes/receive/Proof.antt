@@ -7,7 +7,12 @@ use Rattle.command.proofs.changes.receive.Statement.{statement}
 use Rattle.command.proofs.changes.receive.Tie as tie
 
 returns : tie.Need-returns
-returns c = rw (← c .before .before .before .before .before .before .before .before .before .byte .ensures, ← c .before .before .before .before .before .before .before .before .size .ensures, ← c .before .before .before .before .receive .ensures .0) (c .before .before .done .ensures)
+returns c =
+    let d = c .before .before in
+    let r = d .before .before in
+    let s = r .before .before .before .before in
+    let b = s .before in
+    rw (← b .byte .ensures, ← s .size .ensures, ← r .receive .ensures .0) (d .done .ensures)
 
 pub receive-spec : {M : Type 1} → statement M
 receive-spec =

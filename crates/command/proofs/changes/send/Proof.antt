@@ -9,10 +9,17 @@ use Rattle.command.proofs.changes.send.Statement.{statement}
 use Rattle.command.proofs.changes.send.Tie as tie
 
 sent-requires : tie.Need-sent-requires
-sent-requires c κs = (c .before .before .before .before .before .before .pre .0, (omega (arith, c .before .before .before .size .ensures, length-take (c .before .before .before .size .result) (replicate 128 untouchedByte)), c .before .before .before .before .before .before .pre .1))
+sent-requires c κs =
+    let s = c .before .before .before in
+    let t = s .before .before .before in
+    (t .pre .0, (omega (arith, s .size .ensures, length-take (s .size .result) (replicate 128 untouchedByte)), t .pre .1))
 
 returns : tie.Need-returns
-returns c = rw (← c .before .before .before .before .before .before .before .before .byte .ensures, ← c .before .before .before .before .before .before .before .size .ensures) (c .before .before .before .sent .ensures)
+returns c =
+    let s = c .before .before .before in
+    let z = s .before .before .before .before in
+    let b = z .before in
+    rw (← b .byte .ensures, ← z .size .ensures) (s .sent .ensures)
 
 pub send-spec : {M : Type 1} → statement M
 send-spec =

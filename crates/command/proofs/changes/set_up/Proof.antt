@@ -9,13 +9,17 @@ use Rattle.command.proofs.changes.set_up.Tie as tie
 
 returns : tie.Need-returns
 unfolding setupDone
-returns c = (
-  c .setup .ensures .0 ∙ (λ i. setupOf (c .before .before .before .before .before .before .before .byte .ensures i) (c .before .before .before .before .before .before .mac .ensures i) (c .before .before .before .before .before .precedence .ensures i) (flagIn (c .before .before .before .before .before .before .before .before .before .args .t1) 3) (c .before .before .before .number-or .ensures i) (c .before .before .number-or2 .ensures i) (c .before .settings .ensures i)),
-  c .setup .ensures .1,
-)
+returns c =
+    let s = c .before in
+    let n = s .before in
+    let u = n .before in
+    let p = u .before .before in
+    let m = p .before in
+    let b = m .before in
+    let t = b .before .before in
+    (c .setup .ensures .0 ∙ (λ i. setupOf (b .byte .ensures i) (m .mac .ensures i) (p .precedence .ensures i) (flagIn (t .args .t1) 3) (u .number-or .ensures i) (n .number-or2 .ensures i) (s .settings .ensures i)), c .setup .ensures .1)
 
 pub set-up-spec : {M : Type 1} → statement M
-unfolding setupDone
 set-up-spec =
     tie.close
     (tie.spec

@@ -1,7 +1,7 @@
 -- By the drift.
-use mathlib.Core.Path.{sym, ap}
+use mathlib.Core.Path.{sym, ap, subst}
 use Rattle.answer.proofs.AnswerLaws.{as-prints}
-use Rattle.command.specs.Answer.{driftText}
+use Rattle.command.specs.Answer.{IsNumber, driftText}
 use borrow.Author.Needs.{needs}
 use Rattle.command.proofs.questions.rate.Statement.{statement}
 use Rattle.command.proofs.questions.rate.Tie as tie
@@ -15,7 +15,10 @@ rate-spec =
     (λ c. search needs)
     (λ c κs. search needs)
     (λ c. search needs)
-    (λ c κs. (c .before .before .before .before .before .pre .0 _ (c .before .before .drift .given .1), c .before .before .before .before .before .pre .1))
+    (λ c κs.
+    let d = c .before .before in
+    let s = d .before .before .before in
+    (subst IsNumber (d .drift .given .1) (s .pre .0), s .pre .1))
     (λ c. search needs)
     (λ c. as-prints (ap driftText (sym (c .before .before .before .before .enum-told .given .1))) (c .before .before .one .ensures))
     (λ c. search needs)

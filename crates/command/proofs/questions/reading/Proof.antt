@@ -8,7 +8,11 @@ use Rattle.command.proofs.questions.reading.Statement.{statement}
 use Rattle.command.proofs.questions.reading.Tie as tie
 
 returns-2 : tie.Need-returns-2
-returns-2 c = as-prints (ap (columnsText fieldWidths) (c .before .before .before .before .values .ensures) ∙ ap readText (sym (c .before .before .before .before .before .before .before .before .said2 .given .1))) (c .before .before .line .ensures)
+returns-2 c =
+    let l = c .before .before in
+    let v = l .before .before in
+    let s = v .before .before .before .before in
+    as-prints (ap (columnsText fieldWidths) (v .values .ensures) ∙ ap readText (sym (s .said2 .given .1))) (l .line .ensures)
 
 pub reading-spec : {M : Type 1} → statement M
 reading-spec =

@@ -9,10 +9,17 @@ use Rattle.command.proofs.questions.write.Statement.{statement}
 use Rattle.command.proofs.questions.write.Tie as tie
 
 written-requires : tie.Need-written-requires
-written-requires c κs = (omega (arith, c .before .before .size .ensures, length-take (c .before .before .size .result) (replicate 128 untouchedByte)), c .before .before .before .before .before .pre)
+written-requires c κs =
+    let s = c .before .before in
+    let t = s .before .before .before in
+    (omega (arith, s .size .ensures, length-take (s .size .result) (replicate 128 untouchedByte)), t .pre)
 
 returns : tie.Need-returns
-returns c = rw (← c .before .before .before .before .before .before .before .frame-fields .ensures, ← c .before .before .before .before .before .before .size .ensures) (c .before .before .before .written .ensures)
+returns c =
+    let w = c .before .before .before in
+    let s = w .before .before .before in
+    let f = s .before in
+    rw (← f .frame-fields .ensures, ← s .size .ensures) (w .written .ensures)
 
 pub write-spec : {M : Type 1} → statement M
 write-spec =
