@@ -7,7 +7,7 @@ ghost use Rattle.bridge.specs.State.{Lawful};
 ghost use Rattle.hexline.specs.Print.{threeOf};
 ghost use Rattle.words.specs.Said.{longest, Prints};
 ghost use Rattle.answer.specs.Answer.{Says};
-ghost use Rattle.capture.specs.Capture.{isLine, startOf, toldOf, receivedOf, listedOf};
+ghost use Rattle.capture.specs.Capture.{isLine, startOf, toldText, receivedOf, listedOf};
 use answer::Answered;
 use bridge::Bridge;
 use bridge::Done;
@@ -76,21 +76,14 @@ fn three(out: &mut [u8], a: u8, b: u8, c: u8) -> usize
     PRINTED
 }
 
-// Prints an answer with the clock that is chosen now.
-fn told(b: Bridge, answer: u8, out: &mut [u8]) -> Answered
-    requires { ⌜ Lawful b ⌝ }
+// Prints an answer with the chosen clock.
+fn told(chosen: Candidate, answer: u8, out: &mut [u8]) -> usize
     requires { ⌜ longest ≤ length (now out) ⌝ }
-    ensures { λ r. ⌜ Says (toldOf b answer) r (now (out .entry)) (now (out .exit)) ⌝ }
+    ensures { λ r. ⌜ Prints (toldText answer chosen) r (now (out .entry)) (now (out .exit)) ⌝ }
 {
-    match bridge::chosen(b) {
-        Candidate::Nothing => Answered {
-            next: b,
-            len: three(out, answer, NOTHING, NOTHING),
-        },
-        Candidate::Clock(_, hop, port) => Answered {
-            next: b,
-            len: three(out, answer, port, hop),
-        },
+    match chosen {
+        Candidate::Nothing => three(out, answer, NOTHING, NOTHING),
+        Candidate::Clock(_, hop, port) => three(out, answer, port, hop),
     }
 }
 
@@ -124,9 +117,15 @@ pub fn answer_line(b: Bridge, text: &[u8], out: &mut [u8]) -> Answered
     ensures { λ r. ⌜ Says (listedOf b (now (text .entry))) r (now (out .entry)) (now (out .exit)) ⌝ }
 {
     if !is_line(text) {
-        return told(b, refusals::BAD_LINE, out);
+        return Answered {
+            next: b,
+            len: told(bridge::chosen(b), refusals::BAD_LINE, out),
+        };
     }
     let done = received(b, text);
     let next = done.next;
-    told(next, done.answer, out)
+    Answered {
+        next: next,
+        len: told(bridge::chosen(next), done.answer, out),
+    }
 }
