@@ -127,7 +127,12 @@ pub fn own_clock(b: Bridge, count: u8, seconds: u64, fraction: u64, at: u64) -> 
         };
     }
     let clock = b.clock;
-    let reading = port::own_clock::own_clock(clock, count, GrandTime(seconds, fraction), LocalTime(at));
+    let reading = port::own_clock::own_clock(
+        clock,
+        count,
+        GrandTime(seconds, fraction),
+        LocalTime(at),
+    );
     let after = reading.clock;
     let mut next = b;
     next.clock = after;

@@ -7,6 +7,7 @@ use lib.ListN.{length, getD, drop}
 use Rattle.refusals.specs.Refusals.{badLine}
 use Rattle.numbers.specs.Digits.{numberAt}
 use Rattle.choice.specs.Choose.{shownPort, shownHop}
+use Rattle.choice.specs.declared.Candidate.{Candidate}
 use Rattle.table.specs.Fits.{plainSetup}
 use Rattle.bridge.specs.Setup.{defaultTimeout, defaultBack, setupOf}
 use Rattle.bridge.specs.Links.{linksOf}
@@ -37,8 +38,11 @@ unfoldable pub isLine : List ℕ → Bool
 isLine s = cond (eqb (length s) lineDigits) (allDigits s) false
 
 -- an answer, with the port and the held hop of the clock that is chosen then
+abbrev pub listedText : ℕ → Candidate → List ℕ
+listedText answer choice = line3 answer (shownPort choice) (shownHop choice)
+
 abbrev pub listedAs : Bridge → ℕ → Answer
-listedAs b answer = says b (line3 answer (shownPort (chosenOf b)) (shownHop (chosenOf b)))
+listedAs b answer = says b (listedText answer (chosenOf b))
 
 -- where the parts of a line's 71 bytes start: the port, the arrival, the frame
 abbrev pub portPlace : ℕ

@@ -4,12 +4,13 @@ ghost use mathlib.Core.Bool.{true};
 ghost use Prim.Native.Nat.{_≤_};
 ghost use lib.ListN.{length};
 ghost use Rattle.bridge.specs.State.{Lawful};
-ghost use Rattle.columns.specs.Columns.{longestAnswer};
+ghost use Rattle.columns.specs.Columns.{longestAnswer, Prints};
 ghost use Rattle.answer.specs.Answer.{Says};
-ghost use Rattle.capture.specs.Capture.{isLine, startOf, listedAs, receivedOf, listedOf};
+ghost use Rattle.capture.specs.Capture.{isLine, startOf, listedText, receivedOf, listedOf};
 use answer::Answered;
 use bridge::Bridge;
 use bridge::Done;
+use choice::Candidate;
 use choice::candidates;
 use hexline::digits;
 use table::records;
@@ -46,19 +47,14 @@ pub fn start() -> Bridge
     linked.next
 }
 
-// An answer with the clock that is chosen now.
-fn listed(b: Bridge, answer: u8, out: &mut [u8]) -> Answered
-    requires { ⌜ Lawful b ⌝ }
+// Prints an answer with the chosen clock.
+fn listed(choice: Candidate, answer: u8, out: &mut [u8]) -> usize
     requires { ⌜ longestAnswer ≤ length (now out) ⌝ }
-    ensures { λ r. ⌜ Says (listedAs b answer) r (now (out .entry)) (now (out .exit)) ⌝ }
+    ensures { λ r. ⌜ Prints (listedText answer choice) r (now (out .entry)) (now (out .exit)) ⌝ }
 {
-    let choice = bridge::chosen(b);
     let port = candidates::shown_port(choice);
     let hop = candidates::shown_hop(choice);
-    Answered {
-        next: b,
-        len: columns::three(out, answer, port, hop),
-    }
+    columns::three(out, answer, port, hop)
 }
 
 // Whether a text is 142 digits.
@@ -91,9 +87,15 @@ pub fn answer_line(b: Bridge, text: &[u8], out: &mut [u8]) -> Answered
     ensures { λ r. ⌜ Says (listedOf b (now (text .entry))) r (now (out .entry)) (now (out .exit)) ⌝ }
 {
     if !is_line(text) {
-        return listed(b, refusals::BAD_LINE, out);
+        return Answered {
+            next: b,
+            len: listed(bridge::chosen(b), refusals::BAD_LINE, out),
+        };
     }
     let done = received(b, text);
     let next = done.next;
-    listed(next, done.answer, out)
+    Answered {
+        next: next,
+        len: listed(bridge::chosen(next), done.answer, out),
+    }
 }

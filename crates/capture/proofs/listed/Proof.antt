@@ -1,6 +1,4 @@
--- By what is shown of the choice.
-use mathlib.Core.Path.{_≡_, refl, ap, _∙_}
-use Rattle.choice.specs.Choose.{shownPort, shownHop}
+-- The three bytes by what is shown of the choice.
 use Rattle.columns.specs.Columns.{line3}
 use Rattle.answer.proofs.AnswerLaws.{as-prints}
 use borrow.Author.Needs.{needs}
@@ -9,16 +7,9 @@ use Rattle.capture.proofs.listed.Tie as tie
 
 returns : tie.Need-returns
 returns c =
-    let t = c .before .before in
-    let h = t .before .before in
+    let h = c .before .before .before .before in
     let p = h .before in
-    let d = p .before in
-    let s = d .before .before in
-    let port = p .shown-port .ensures ∙ ap shownPort (d .chosen .ensures) in
-    let hop = h .shown-hop .ensures ∙ ap shownHop (d .chosen .ensures) in
-    record { state = refl; prints = as-prints (λ i. line3 (s .args .answer) (port i) (hop i)) (t .three .ensures); lawful = s .pre .0 }
+    as-prints (λ i. line3 (p .before .before .args .answer) (p .shown-port .ensures i) (h .shown-hop .ensures i)) (c .before .before .three .ensures)
 
 pub listed-spec : {M : Type 1} → statement M
-listed-spec =
-    tie.close
-    (tie.spec (λ c κs. search needs) (λ c κs. search needs) (λ c κs. search needs) (λ c κs. search needs) (λ c. search needs) returns)
+listed-spec = tie.close (tie.spec (λ c κs. search needs) (λ c κs. search needs) (λ c κs. search needs) (λ c. search needs) returns)
