@@ -1,4 +1,4 @@
--- Each limit is tested in turn; the abs of the gain is that of a difference below 2^48.
+-- Each limit is tested in turn; the size of the gain is that of a difference below 2^48.
 use borrow.Author.Needs.{needs}
 use mathlib.Core.Path.{_≡_, ap, _∙_}
 use Prim.Native.Nat.{_^_}

@@ -1,4 +1,4 @@
--- The mul of the rate and the stretch, out of its parts.
+-- The product of the rate and the stretch, out of its parts.
 use borrow.Author.Needs.{needs}
 use mathlib.Core.Path.{_≡_, ap, _∙_}
 use native.Mathlib.Nat.{mul-le-mul-right}
