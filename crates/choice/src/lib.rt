@@ -14,7 +14,7 @@ pub struct Precedence {
     pub clock: u64,
 }
 
-// The announcement: precedence, held hop, and when it was announcement.
+// The announcement: precedence, held hop, and when it was heard.
 pub enum Announcement {
     Silent,
     Announced(Precedence, u8, LocalTime),

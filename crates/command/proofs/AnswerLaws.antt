@@ -4,14 +4,17 @@ use mathlib.Core.Bool.{Bool, true, false, true≢false}
 use mathlib.Core.List.{List, [], _∷_}
 use Prim.Native.Nat.{ℕ, zero, suc, _+_, _*_, _^_, _<_, _≤_}
 use native.Mathlib.Omega.{arith}
+use borrow.Author.Tests.{lt-leb, ne-eqb}
 use lib.ListN.{length, length-take}
 use lib.Dec.{ltb}
 use lib.Ieee.{Float, inf, isNan, Format, prec, emax, low, round, units, odd}
 use denote.Ref.{RefT, now}
 use Rattle.numbers.proofs.Branches.{if-when}
 use Rattle.samples.specs.declared.Samples.{Samples}
-use Rattle.samples.specs.declared.Samples.the-variants.{Empty, One, Two}
-use Rattle.line.specs.Drift.{ppmOf, driftOf}
+use Rattle.samples.specs.Keep.{endsOf}
+use Rattle.samples.specs.declared.Ends.{Ends}
+use Rattle.samples.specs.declared.Ends.the-variants.{Few, Both}
+use Rattle.line.specs.Drift.{ppmOf, driftThrough, driftOf}
 use Rattle.frame.specs.Better.{standingOf, winnerOf, precedenceBytes, lies, pieceBy, betterPartOf}
 use Rattle.frame.specs.declared.Winner.{Winner}
 use Rattle.frame.specs.declared.Winner.the-variants.{Neither, First, Second}
@@ -19,8 +22,9 @@ use Rattle.table.specs.Table.{samplesAt}
 use Rattle.bridge.specs.Drift.{driftAt}
 use Rattle.bridge.specs.declared.Bridge.{Bridge}
 use Rattle.columns.specs.Columns.{bytesLine}
+use Rattle.answer.specs.Answer.{badLine}
 use Rattle.fields.specs.declared.Form.{Form}
-use Rattle.command.specs.Answer.{IsNumber, pieceOf, betterText, callOf, isLine, letterOf, formIn, answerOf}
+use Rattle.command.specs.Answer.{IsNumber, pieceOf, betterText, callOf, longestLine, isLine, letterOf, formIn, answerOf}
 
 -- ---- a drift is a number
 
@@ -44,13 +48,15 @@ round-number f s n d = units-number f s _ _
 
 samples-number : (s : Samples) → IsNumber (driftOf s)
 unfolding driftOf ppmOf
-samples-number Empty = tt
-samples-number (One a) = tt
-samples-number (Two a b) = rw round-number tt
+samples-number s = by (endsOf s)
+  where
+    by : (e : Ends) → IsNumber (driftThrough e)
+    by Few = tt
+    by (Both a b) = rw round-number tt
 
 pub drift-number : (b : Bridge) (p : ℕ) → IsNumber (driftAt b p)
 unfolding driftAt
-drift-number b p = if-when IsNumber (ltb (b .n) p) (λ t. tt) (λ t. samples-number (samplesAt p (b .clock) (b .ports)))
+drift-number b p = if-when IsNumber (ltb (b .setup .n) p) (λ t. tt) (λ t. samples-number (samplesAt p (b .clock) (b .ports)))
 
 -- ---- the better frame's bytes
 
@@ -85,3 +91,8 @@ line-some (x ∷ s) e = omega arith
 pub answer-call : (b : Bridge) (s : List ℕ) {f : Form} → isLine s ≡ true → f ≡ formIn s → f .good ≡ true → callOf (letterOf s) b f ≡ answerOf b s
 unfolding answerOf
 answer-call b s l e g = ap (callOf (letterOf s) b) e ∙ rw (l, sym (ap (λ (x : Form). x .good) e) ∙ g) refl
+
+-- a text that is longer than any line is none
+pub answer-long : (b : Bridge) (s : List ℕ) → longestLine < length s → badLine b ≡ answerOf b s
+unfolding answerOf isLine
+answer-long b s h = rw (ne-eqb (length s) 0 (λ e. omega arith), lt-leb (length s) longestLine h) refl

@@ -5,12 +5,13 @@ use mathlib.Core.List.{List, [], _∷_}
 use lib.ListN.{length, take, drop, getD}
 use lib.Dec.{T, leb, eqb}
 use lib.Ieee.{isNan, toBits, binary64}
-use Rattle.refusals.specs.Refusals.{done, outOfRange}
+use Rattle.refusals.specs.Refusals.{done}
 use Rattle.numbers.specs.Digits.{digits}
+use Rattle.line.specs.Drift.{driftNo}
 use Rattle.line.specs.declared.Drift.{Drift}
 use Rattle.line.specs.declared.Drift.the-variants.{NoReading, PartsPerMillion, Refused as noClock}
+use Rattle.choice.specs.Choose.{shownPort, shownHop}
 use Rattle.choice.specs.declared.Candidate.{Candidate}
-use Rattle.choice.specs.declared.Candidate.the-variants.{Nothing, Clock}
 use Rattle.frame.specs.Read.{readOf}
 use Rattle.frame.specs.Write.{writeRefusal, writtenOf}
 use Rattle.frame.specs.Better.{standingOf, winnerOf, precedenceStart, precedenceBytes}
@@ -19,8 +20,8 @@ use Rattle.frame.specs.declared.Reading.{Reading}
 use Rattle.frame.specs.declared.Reading.the-variants.{Frame, Refused as unread}
 use Rattle.frame.specs.declared.Winner.{Winner}
 use Rattle.frame.specs.declared.Winner.the-variants.{Neither, First, Second}
-use Rattle.bridge.specs.Setup.{defaultTimeout, defaultBack, setupOf}
-use Rattle.bridge.specs.Links.{linksOf}
+use Rattle.bridge.specs.Setup.{setupOf}
+use Rattle.bridge.specs.Links.{linksOf, linkNo, linkCount}
 use Rattle.bridge.specs.Own.{ownClockOf}
 use Rattle.bridge.specs.Receive.{receiveOf}
 use Rattle.bridge.specs.Age.{ageOf}
@@ -37,17 +38,13 @@ use Rattle.fields.specs.Form.{formOf}
 use Rattle.fields.specs.declared.Form.{Form}
 use Rattle.answer.specs.Answer.{Answer, says, badText, badLine, doneSays}
 use Rattle.command.specs.Row.{letterS, letterL, letterO, letterR, letterA, letterC, letterT, letterD, letterF, letterW, letterB, rowOf}
-use Rattle.command.specs.Argument.{numberIn, byteIn, sizeIn, flagIn, numberOr, settingsIn, macIn, precedenceIn, fieldsIn, untouched}
+use Rattle.command.specs.Argument.{numberIn, byteIn, sizeIn, setupIn, fieldsIn, untouched}
 
 -- ---- the calls that change the state
 
-unfoldable pub setupDone : Form → Done
-setupDone f =
-    setupOf (byteIn f 0) (macIn (f .bytes)) (precedenceIn (f .bytes)) (flagIn f 3) (numberOr defaultTimeout f 4) (numberOr defaultBack f 5) (settingsIn f)
-
 abbrev pub linkText : LinkCount → List ℕ
-linkText beyond = line1 outOfRange
-linkText (Up n) = line2 done n
+linkText beyond = line1 (linkNo beyond)
+linkText (Up n) = line2 (linkNo (Up n)) (linkCount (Up n))
 
 abbrev pub linkedSays : Linked → Answer
 linkedSays l = says (l .next) (linkText (l .answer))
@@ -60,13 +57,8 @@ sendSays b port t out = sentSays (sendOf b port t (length out)) (sendBytes b por
 
 -- ---- the calls that leave the state as it is
 
--- what is printed for a clock that there isn't
-abbrev pub noneByte : ℕ
-noneByte = 255
-
 abbrev pub chosenText : Candidate → List ℕ
-chosenText Nothing = line2 noneByte noneByte
-chosenText (Clock p hop port) = line2 port hop
+chosenText choice = line2 (shownPort choice) (shownHop choice)
 
 -- a drift in parts per million is a number
 abbrev pub IsNumber : Drift → Type 0
@@ -75,9 +67,9 @@ IsNumber NoReading = Unit {0}
 IsNumber (PartsPerMillion x) = T (not (isNan x))
 
 abbrev pub driftText : Drift → List ℕ
-driftText noClock = line1 outOfRange
-driftText NoReading = line1 done
-driftText (PartsPerMillion x) = lineWith done (digits 8 (toBits binary64 x))
+driftText noClock = line1 (driftNo noClock)
+driftText NoReading = line1 (driftNo NoReading)
+driftText (PartsPerMillion x) = lineWith (driftNo (PartsPerMillion x)) (digits 8 (toBits binary64 x))
 
 -- how many bytes each column of a frame's fields has; 0 is a character
 abbrev pub fieldWidths : List ℕ
@@ -124,7 +116,7 @@ askedText letter b f =
 -- S, L, O, R, A, T, and those
 unfoldable pub callOf : ℕ → Bridge → Form → Answer
 callOf letter b f =
-    cond (eqb letter letterS) (doneSays (setupDone f))
+    cond (eqb letter letterS) (doneSays (setupOf (setupIn f)))
     (cond (eqb letter letterL) (linkedSays (linksOf b (byteIn f 0)))
     (cond (eqb letter letterO) (doneSays (ownClockOf b (byteIn f 0) (numberIn f 1) (numberIn f 2) (numberIn f 3)))
     (cond (eqb letter letterR) (doneSays (receiveOf b (byteIn f 0) (take (sizeIn f 2) (f .bytes)) (numberIn f 1)))

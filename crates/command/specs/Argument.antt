@@ -12,6 +12,8 @@ use Rattle.choice.specs.declared.Precedence.{Precedence}
 use Rattle.frame.specs.declared.Mac.{Mac}
 use Rattle.frame.specs.declared.Fields.{Fields}
 use Rattle.port.specs.declared.Setting.{Setting}
+use Rattle.table.specs.declared.Setup.{Setup}
+use Rattle.bridge.specs.Setup.{defaultTimeout, defaultBack}
 use Rattle.fields.specs.Field.{mostFlag, mostLength}
 use Rattle.fields.specs.declared.Form.{Form}
 
@@ -57,6 +59,18 @@ precedenceIn s = record {
   variance = numberAt s 8 2;
   priority2 = getD s 10 0;
   clock = numberAt s 11 8;
+}
+
+-- what Setup is given
+unfoldable pub setupIn : Form → Setup
+setupIn f = record {
+  n = byteIn f 0;
+  mac = macIn (f .bytes);
+  own = precedenceIn (f .bytes);
+  capable = flagIn f 3;
+  timeout = numberOr defaultTimeout f 4;
+  back = numberOr defaultBack f 5;
+  settings = settingsIn f;
 }
 
 abbrev pub errorIn : List ℕ → ErrorTime

@@ -2,7 +2,7 @@
 ghost use mathlib.Core.Path.{_≡_};
 ghost use Prim.Native.Nat.{_<_};
 ghost use Rattle.fields.specs.Form.{mostFields};
-ghost use Rattle.command.specs.Argument.{byteIn, sizeIn, numberOr, settingIn, settingsIn, macIn, precedenceIn, errorIn, fieldsIn};
+ghost use Rattle.command.specs.Argument.{byteIn, sizeIn, numberOr, settingIn, settingsIn, macIn, precedenceIn, setupIn, errorIn, fieldsIn};
 use choice::Precedence;
 use delay::DelaySetting;
 use fields::Form;
@@ -10,9 +10,13 @@ use frame::Fields;
 use frame::Mac;
 use numbers::digits;
 use port::Setting;
+use table::Setup;
 use times::ErrorTime;
 use times::GrandTime;
 use times::LocalTime;
+
+// The flag of a station that is capable of a clock of its own.
+const CAPABLE: u64 = 1;
 
 // How many values a byte has.
 const BYTE_VALUES: u64 = 256;
@@ -60,7 +64,7 @@ pub fn size(form: Form, i: usize) -> usize
 }
 
 // Field i as a number, or the default.
-pub fn number_or(form: Form, i: usize, default: u64) -> u64
+fn number_or(form: Form, i: usize, default: u64) -> u64
     requires { ⌜ i < mostFields ⌝ }
     ensures { λ r. ⌜ r ≡ numberOr default form i ⌝ }
 {
@@ -86,7 +90,7 @@ fn setting(form: Form, i: usize) -> Setting
 }
 
 // The ports' part of the setup.
-pub fn settings(form: Form) -> [Setting; 8]
+fn settings(form: Form) -> [Setting; 8]
     ensures { λ r. ⌜ r ≡ settingsIn form ⌝ }
 {
     [
@@ -102,14 +106,14 @@ pub fn settings(form: Form) -> [Setting; 8]
 }
 
 // The address at the start of the line's bytes.
-pub fn mac(b: [u8; 256]) -> Mac
+fn mac(b: [u8; 256]) -> Mac
     ensures { λ r. ⌜ r ≡ macIn b ⌝ }
 {
     Mac(b[0], b[1], b[2], b[3], b[4], b[5])
 }
 
 // The precedence after it.
-pub fn precedence(b: [u8; 256]) -> Precedence
+fn precedence(b: [u8; 256]) -> Precedence
     ensures { λ r. ⌜ r ≡ precedenceIn b ⌝ }
 {
     Precedence {
@@ -118,6 +122,22 @@ pub fn precedence(b: [u8; 256]) -> Precedence
         variance: digits::number_at(&b, VARIANCE, VARIANCE_BYTES) as u16,
         priority2: b[PRIORITY2],
         clock: digits::number_at(&b, CLOCK, CLOCK_BYTES),
+    }
+}
+
+// What Setup is given.
+pub fn given(form: Form) -> Setup
+    ensures { λ r. ⌜ r ≡ setupIn form ⌝ }
+{
+    let bytes = form.bytes;
+    Setup {
+        n: byte(form, 0),
+        mac: mac(bytes),
+        own: precedence(bytes),
+        capable: form.numbers[3] == CAPABLE,
+        timeout: number_or(form, 4, bridge::DEFAULT_TIMEOUT),
+        back: number_or(form, 5, bridge::DEFAULT_BACK),
+        settings: settings(form),
     }
 }
 

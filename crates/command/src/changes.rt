@@ -6,49 +6,29 @@ ghost use Rattle.fields.specs.Field.{mostLength};
 ghost use Rattle.fields.specs.Form.{mostBytes};
 ghost use Rattle.columns.specs.Columns.{longestAnswer, Prints};
 ghost use Rattle.bridge.specs.State.{Lawful};
+ghost use Rattle.bridge.specs.Setup.{setupOf};
 ghost use Rattle.bridge.specs.Links.{linksOf};
 ghost use Rattle.bridge.specs.Own.{ownClockOf};
 ghost use Rattle.bridge.specs.Receive.{receiveOf};
 ghost use Rattle.bridge.specs.Age.{ageOf};
 ghost use Rattle.answer.specs.Answer.{doneSays, Says};
-ghost use Rattle.command.specs.Argument.{numberIn, byteIn, sizeIn, untouched};
-ghost use Rattle.command.specs.Answer.{setupDone, linkText, linkedSays, sendSays};
+ghost use Rattle.command.specs.Argument.{numberIn, byteIn, sizeIn, setupIn, untouched};
+ghost use Rattle.command.specs.Answer.{linkText, linkedSays, sendSays};
 use crate::arguments;
 use answer::Answered;
 use bridge::Bridge;
-use bridge::Done;
 use bridge::LinkCount;
 use fields::Form;
-
-// The flag of a station that is capable of a clock of its own.
-const CAPABLE: u64 = 1;
 
 // What an output holds before a call.
 pub const UNTOUCHED: u8 = 0xA5;
 
-// The state that Setup makes of a line.
-fn set_up(form: Form) -> Done
-    ensures { λ r. ⌜ r ≡ setupDone form ⌝ }
-    ensures { λ r. ⌜ Lawful (r .next) ⌝ }
-{
-    let bytes = form.bytes;
-    bridge::setup(
-        arguments::byte(form, 0),
-        arguments::mac(bytes),
-        arguments::precedence(bytes),
-        form.numbers[3] == CAPABLE,
-        arguments::number_or(form, 4, bridge::DEFAULT_TIMEOUT),
-        arguments::number_or(form, 5, bridge::DEFAULT_BACK),
-        arguments::settings(form),
-    )
-}
-
 // `S n mac prec capable timeout back d1 .. d8`.
 pub fn setup(form: Form, out: &mut [u8]) -> Answered
     requires { ⌜ longestAnswer ≤ length (now out) ⌝ }
-    ensures { λ r. ⌜ Says (doneSays (setupDone form)) r (now (out .entry)) (now (out .exit)) ⌝ }
+    ensures { λ r. ⌜ Says (doneSays (setupOf (setupIn form))) r (now (out .entry)) (now (out .exit)) ⌝ }
 {
-    answer::done(set_up(form), out)
+    answer::done(bridge::setup(arguments::given(form)), out)
 }
 
 // Prints what Links answers.

@@ -8,6 +8,7 @@ ghost use mathlib.Core.Path.{_≡_};
 ghost use Prim.Native.Nat.{_≤_};
 ghost use lib.ListN.{length};
 ghost use Rattle.bridge.specs.State.{Lawful};
+ghost use Rattle.bridge.specs.Setup.{noBridge};
 ghost use Rattle.fields.specs.Form.{mostBytes};
 ghost use Rattle.columns.specs.Columns.{longestAnswer, Prints};
 ghost use Rattle.answer.specs.Answer.{Says};
@@ -15,9 +16,19 @@ ghost use Rattle.command.specs.Answer.{askedText, callOf, isLine, answer
 use answer::Answered;
 use bridge::Bridge;
 use fields::Form;
+use table::records;
 
 // The longest line that can be one: B with two frames of 128 bytes.
 pub const LONGEST_LINE: usize = 515;
+
+// The bridge before the first line: what a refused Setup hands back.
+pub fn start() -> Bridge
+    ensures { λ r. ⌜ r ≡ noBridge ⌝ }
+    ensures { λ r. ⌜ Lawful r ⌝ }
+{
+    let refused = bridge::setup(records::plain_setup(0, 0, 0));
+    refused.next
+}
 
 // Whether there is a letter, and no more than any line has.
 fn is_line(text: &[u8]) -> bool

@@ -18,7 +18,7 @@ ghost use Rattle.command.specs.Answer.{chosenText, IsNumber, driftText, 
 use crate::arguments;
 use crate::changes;
 use bridge::Bridge;
-use choice::Candidate;
+use choice::candidates;
 use columns::BYTE;
 use columns::CHARACTER;
 use columns::NEWLINE;
@@ -31,27 +31,16 @@ use frame::read;
 use frame::write;
 use line::Drift;
 
-// What is printed for a clock that there isn't.
-const NOTHING: u8 = 255;
-
-// Prints a choice.
-fn candidate(chosen: Candidate, out: &mut [u8]) -> usize
-    requires { ⌜ longestAnswer ≤ length (now out) ⌝ }
-    ensures { λ r. ⌜ Prints (chosenText chosen) r (now (out .entry)) (now (out .exit)) ⌝ }
-{
-    match chosen {
-        Candidate::Nothing => columns::two(out, NOTHING, NOTHING),
-        Candidate::Clock(_, hop, port) => columns::two(out, port, hop),
-    }
-}
-
 // `C`.
 pub fn chosen(b: Bridge, out: &mut [u8]) -> usize
     requires { ⌜ Lawful b ⌝ }
     requires { ⌜ longestAnswer ≤ length (now out) ⌝ }
     ensures { λ r. ⌜ Prints (chosenText (chosenOf b)) r (now (out .entry)) (now (out .exit)) ⌝ }
 {
-    candidate(bridge::chosen(b), out)
+    let choice = bridge::chosen(b);
+    let port = candidates::shown_port(choice);
+    let hop = candidates::shown_hop(choice);
+    columns::two(out, port, hop)
 }
 
 // Prints a float's bits after the answer 0.

@@ -11,7 +11,7 @@ use Rattle.samples.specs.declared.Pair.the-variants.{Unset, Set}
 use Rattle.samples.specs.declared.Gain.{Gain}
 use Rattle.samples.specs.declared.Gain.the-variants.{Within, Outside}
 
--- the shortest and the longest spread over which a rate is taken, and the least spread for parts unit of gain
+-- the shortest and the longest spread over which a rate is taken, and the least spread for one unit of gain
 abbrev pub shortestSpread : ℕ
 shortestSpread = 2 ^ 30
 
@@ -34,7 +34,7 @@ pub record Limits (d : ℤ) (s : ℕ) : Type 0 where
 abbrev pub limitsHold : ℤ → ℕ → Bool
 limitsHold d s = leb shortestSpread s && leb s longestSpread && leb (natAbs d * perGain) s
 
--- d, the rise of the other clock less the spread S of this parts, where the limits hold
+-- d, the rise of the other clock less the spread S of this one, where the limits hold
 unfoldable pub gainOf : ℤ → ℕ → Gain
 gainOf rise s = cond (limitsHold (rise -ℤ pos s) s) (Within (rise -ℤ pos s)) Outside
 
@@ -59,7 +59,7 @@ rateWithin Outside s = pos 0
 abbrev pub steepest : ℕ
 steepest = 8589935
 
--- the neighbour's rate from the stored pair (localTime, p) to the new parts
+-- the neighbour's rate from the stored pair (localTime, p) to the new one
 unfoldable pub neighbourRateOf : Pair → LocalTime → LocalTime → ℤ
 neighbourRateOf Unset local p = pos 0
 neighbourRateOf (Set local0 p0) local p = rateWithin (gainOf (pos (sinceOf p p0)) (sinceOf local local0)) (sinceOf local local0)

@@ -1,4 +1,4 @@
--- Laws of local and grand time: a difference lies on the circle, and a grand time and the moment of its units.
+-- Laws of times: the difference round a circle, the count that follows, and a grand time and the moment of its units.
 use mathlib.Core.Path.{_≡_, refl, sym, ap, _∙_}
 use Prim.Native.Nat.{ℕ, zero, suc, _+_, _-_, _/_, _%_, _^_, _<_, _≤_}
 use native.Mathlib.Nat.{add-mod, add-mod-right, mod-lt, mod-eq-of-lt, mod-eq-sub-mod, mod-mod-of-dvd, dvd-of-mod-eq-zero, lt-of-not-le}
@@ -7,7 +7,7 @@ use native.Mathlib.Omega.{arith}
 use borrow.Author.Tests.{lt-ltb, le-ltb, ltb-true, ltb-false}
 use lib.Dec.{lit<, ltb}
 use lib.IntN.{ℤ, pos, negsuc, natAbs, _-ℤ_, pos-ne-negsuc}
-use Rattle.times.specs.Times.{circle, second, grandEnd, aroundOf, sinceOf, units, grandOf, InRange, momentOf, nextCount}
+use Rattle.times.specs.Times.{circle, second, grandEnd, aroundOf, sinceOf, units, grandOf, InRange, momentOf, counts, nextCount}
 use Rattle.times.specs.declared.LocalTime.{LocalTime}
 use Rattle.times.specs.declared.GrandTime.{GrandTime}
 use Rattle.times.specs.declared.Moment.{Moment}
@@ -40,7 +40,7 @@ around-is a b n w h d e = round (w % n) (b % n) (mod-lt w h) (mod-lt b h) ∙ ap
     on-circle = ap (λ (x : ℕ). x % n) (sym e) ∙ mod-mod-of-dvd n (w + b) (dvd-of-mod-eq-zero n d) ∙ add-mod w b n
 
 -- the frameCount that follows c is c less the last one, round their circle
-pub count-is : (c : ℕ) → aroundOf c 255 256 ≡ nextCount c
+pub count-is : (c : ℕ) → aroundOf c (counts - 1) counts ≡ nextCount c
 count-is c = omega arith
 
 -- the grand time of so many units

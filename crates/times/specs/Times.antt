@@ -63,6 +63,9 @@ riseWithin a b = cond (leb a b && ltb (b - a) second) (By (b - a)) Far
 abbrev pub errorOf : ErrorTime → ℤ
 errorOf e = toZ w32 (e .0)
 
--- the frameCount that follows
+-- how many frameCounts there are, and the one that follows: the theorem `count-is` says that this is c - 255, modulo 256
+abbrev pub counts : ℕ
+counts = 256
+
 abbrev pub nextCount : ℕ → ℕ
-nextCount c = (c + 1) % 256
+nextCount c = (c + 1) % counts

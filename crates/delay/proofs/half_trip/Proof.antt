@@ -34,25 +34,13 @@ both-is : (c : tie.After-sub) →
     toZ w64 (ofZ w64 (c .sub .result)) ≡ pos (s .args .trip) -ℤ here s
 both-is c = got (c .sub .ok) (c .sub .ensures ∙ rw (trip-is (c .before), here-is (c .before .before)))
 
-from-unsigned-requires : tie.Need-from-unsigned-requires
-from-unsigned-requires c κs = search needs
-
 advance-requires : tie.Need-advance-requires
 advance-requires c κs = rw (rate-is (c .before), turn-is c) (c .before .pre .0, c .before .pre .2)
-
-from-unsigned-requires-2 : tie.Need-from-unsigned-requires-2
-from-unsigned-requires-2 c κs = search needs
 
 sub-requires : tie.Need-sub-requires
 sub-requires c κs =
     let s = c .before .before .before in
     rw (trip-is c, here-is (c .before)) (omega (arith, s .pre .1, advance-small (s .args .rate) (pos (s .args .turn)) (s .pre .0) (s .pre .2)))
-
-floor-div-requires : tie.Need-floor-div-requires
-floor-div-requires c κs = search needs
-
-at-least-zero-requires : tie.Need-at-least-zero-requires
-at-least-zero-requires c κs = search needs
 
 returns : tie.Need-returns
 unfolding delayOf
@@ -62,13 +50,4 @@ returns c =
     ∙ ap atLeastZero (got (h .floor-div .ok) (h .floor-div .ensures ∙ ap (λ (z : ℤ). floorDiv z 2) (both-is (h .before))))
 
 pub half-trip-spec : {M : Type 1} → statement M
-half-trip-spec =
-    tie.close
-    (tie.spec
-    from-unsigned-requires
-    advance-requires
-    from-unsigned-requires-2
-    sub-requires
-    floor-div-requires
-    at-least-zero-requires
-    returns)
+half-trip-spec = tie.close (tie.spec (λ c κs. search needs) advance-requires (λ c κs. search needs) sub-requires (λ c κs. search needs) (λ c κs. search needs) returns)

@@ -22,25 +22,10 @@ rate-is c = got (c .neighbour-rate .ok) (c .neighbour-rate .ensures)
 heard : (c : tie.Joined1) → let s = c .before .before .before .before in s .args .tx .0 ≡ 0 → s .args .rx .0 ≡ 0 → ⊥
 heard c h k = ⊎-elim (λ w. omega arith) (λ w. omega arith) (c .if1 .came)
 
-enum-known-setting : tie.Need-enum-known-setting
-enum-known-setting c = search needs
-
-enum-told : tie.Need-enum-told
-enum-told c = search needs
-
 returns : tie.Need-returns
 returns c =
     let h = c .before .before in
     delay-unheard _ _ _ _ _ _ (h .before .before .enum-told .given .1) (h .if1 .taken) (c .if2 .taken)
-
-neighbour-rate-requires : tie.Need-neighbour-rate-requires
-neighbour-rate-requires c κs = search needs
-
-since-requires : tie.Need-since-requires
-since-requires c κs = search needs
-
-since-requires-2 : tie.Need-since-requires-2
-since-requires-2 c κs = search needs
 
 measured-delay-requires : tie.Need-measured-delay-requires
 measured-delay-requires c κs = rw (rate-is (c .before .before)) (neighbour-small _ _ _)
@@ -58,13 +43,5 @@ returns-3 c =
 pub link-delay-spec : {M : Type 1} → statement M
 link-delay-spec =
     tie.close
-    (tie.spec
-    enum-known-setting
-    enum-told
-    returns
-    neighbour-rate-requires
-    since-requires
-    since-requires-2
-    measured-delay-requires
-    returns-2
-    returns-3)
+    (tie.spec (λ c. search needs) (λ c. search needs) returns (λ c κs. search needs) (λ c κs. search needs)
+    (λ c κs. search needs) measured-delay-requires returns-2 returns-3)

@@ -40,16 +40,10 @@ step-is : (c : tie.After-add) →
     toZ w64 (ofZ w64 (c .add .result)) ≡ advance s +ℤ pos (s .args .more)
 step-is c = got (c .add .ok) (c .add .ensures ∙ rw (advance-is (c .before .before), more-is (c .before)))
 
-rate-between-requires : tie.Need-rate-between-requires
-rate-between-requires c κs = search needs
-
 advance-requires : tie.Need-advance-requires
 advance-requires c κs =
     let s = c .before in
     rw (rate-is c, distance-is s) (between-small _ _ (s .pre .0), s .pre .1 .read)
-
-from-unsigned-requires : tie.Need-from-unsigned-requires
-from-unsigned-requires c κs = search needs
 
 add-requires : tie.Need-add-requires
 add-requires c κs =
@@ -69,12 +63,4 @@ returns c =
     c .moved .ensures ∙ rw (step-is (c .before)) (ap momentOf (sym (+ℤ-assoc (pos (units (s .args .newest .grand))) (advance s) (pos (s .args .more)))))
 
 pub reading-spec : {M : Type 1} → statement M
-reading-spec =
-    tie.close
-    (tie.spec
-    rate-between-requires
-    advance-requires
-    from-unsigned-requires
-    add-requires
-    moved-requires
-    returns)
+reading-spec = tie.close (tie.spec (λ c κs. search needs) advance-requires (λ c κs. search needs) add-requires moved-requires returns)

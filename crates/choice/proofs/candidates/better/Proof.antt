@@ -7,21 +7,6 @@ use borrow.Author.Needs.{needs}
 use Rattle.choice.proofs.candidates.better.Statement.{statement}
 use Rattle.choice.proofs.candidates.better.Tie as tie
 
-enum-told : tie.Need-enum-told
-enum-told c = search needs
-
-enum-known-a : tie.Need-enum-known-a
-enum-known-a c = search needs
-
-enum-told-2 : tie.Need-enum-told-2
-enum-told-2 c = search needs
-
-enum-known-b : tie.Need-enum-known-b
-enum-known-b c = search needs
-
-outranks-requires : tie.Need-outranks-requires
-outranks-requires c κs = search needs
-
 returns : tie.Need-returns
 unfolding betterOf
 returns c = ap (λ (a : Candidate). betterOf a (c .before .before .args .b)) (sym (c .enum-told .given .1))
@@ -49,13 +34,5 @@ returns-4 c =
 pub better-spec : {M : Type 1} → statement M
 better-spec =
     tie.close
-    (tie.spec
-    enum-told
-    enum-known-a
-    enum-told-2
-    enum-known-b
-    outranks-requires
-    returns
-    returns-2
-    returns-3
-    returns-4)
+    (tie.spec (λ c. search needs) (λ c. search needs) (λ c. search needs) (λ c. search needs) (λ c κs. search needs)
+    returns returns-2 returns-3 returns-4)

@@ -5,12 +5,6 @@ use borrow.Author.Needs.{needs}
 use Rattle.choice.proofs.candidates.candidate.Statement.{statement}
 use Rattle.choice.proofs.candidates.candidate.Tie as tie
 
-enum-told : tie.Need-enum-told
-enum-told c = search needs
-
-enum-known-announcement : tie.Need-enum-known-announcement
-enum-known-announcement c = search needs
-
 returns : tie.Need-returns
 unfolding candidateOf
 returns c = ap (candidateOf (c .before .before .args .number)) (sym (c .enum-told .given .1))
@@ -20,4 +14,4 @@ unfolding candidateOf
 returns-2 c = ap (candidateOf (c .before .before .before .args .number)) (sym (c .before .announcement .given .1))
 
 pub candidate-spec : {M : Type 1} → statement M
-candidate-spec = tie.close (tie.spec enum-told enum-known-announcement returns returns-2)
+candidate-spec = tie.close (tie.spec (λ c. search needs) (λ c. search needs) returns returns-2)

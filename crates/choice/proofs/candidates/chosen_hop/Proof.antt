@@ -5,12 +5,6 @@ use borrow.Author.Needs.{needs}
 use Rattle.choice.proofs.candidates.chosen_hop.Statement.{statement}
 use Rattle.choice.proofs.candidates.chosen_hop.Tie as tie
 
-enum-told : tie.Need-enum-told
-enum-told c = search needs
-
-enum-known-choice : tie.Need-enum-known-choice
-enum-known-choice c = search needs
-
 returns : tie.Need-returns
 unfolding chosenHop
 returns c = ap chosenHop (sym (c .enum-told .given .1))
@@ -20,4 +14,4 @@ unfolding chosenHop
 returns-2 c = ap chosenHop (sym (c .before .choice .given .1))
 
 pub chosen-hop-spec : {M : Type 1} → statement M
-chosen-hop-spec = tie.close (tie.spec enum-told enum-known-choice returns returns-2)
+chosen-hop-spec = tie.close (tie.spec (λ c. search needs) (λ c. search needs) returns returns-2)

@@ -5,16 +5,10 @@ use borrow.Author.Needs.{needs}
 use Rattle.choice.proofs.candidates.outranks.Statement.{statement}
 use Rattle.choice.proofs.candidates.outranks.Tie as tie
 
-key-precedes-requires : tie.Need-key-precedes-requires
-key-precedes-requires c κs = search needs
-
 returns : tie.Need-returns
 returns c =
     let s = c .before .before in
     rank-less (s .args .p) (s .args .q) (s .args .h) (s .args .k) (s .args .i) (s .args .j) (s .fits .i .fits) (sym (c .before .key-precedes .ensures) ∙ c .if1 .taken)
-
-key-precedes-requires-2 : tie.Need-key-precedes-requires-2
-key-precedes-requires-2 c κs = search needs
 
 returns-2 : tie.Need-returns-2
 returns-2 c =
@@ -29,5 +23,4 @@ returns-3 c =
     (sym (c .before .key-precedes2 .ensures) ∙ c .if2 .left)
 
 pub outranks-spec : {M : Type 1} → statement M
-outranks-spec =
-    tie.close (tie.spec key-precedes-requires returns key-precedes-requires-2 returns-2 returns-3)
+outranks-spec = tie.close (tie.spec (λ c κs. search needs) returns (λ c κs. search needs) returns-2 returns-3)

@@ -7,12 +7,6 @@ use Rattle.numbers.proofs.Pairs.{equal-same, equal-never}
 use Rattle.choice.proofs.order.equals.Statement.{statement}
 use Rattle.choice.proofs.order.equals.Tie as tie
 
-high-requires : tie.Need-high-requires
-high-requires c κs = search needs
-
-high-requires-2 : tie.Need-high-requires-2
-high-requires-2 c κs = search needs
-
 returns : tie.Need-returns
 unfolding precedenceOf
 returns c =
@@ -26,4 +20,4 @@ returns-2 c =
     equal-never (2 ^ 64) (highOf (a .p)) (highOf (a .q)) (a .p .clock) (a .q .clock) (λ e. c .if1 .left (omega arith)) (omega arith) (omega arith)
 
 pub equals-spec : {M : Type 1} → statement M
-equals-spec = tie.close (tie.spec high-requires high-requires-2 returns returns-2)
+equals-spec = tie.close (tie.spec (λ c κs. search needs) (λ c κs. search needs) returns returns-2)

@@ -8,17 +8,11 @@ use Rattle.numbers.proofs.Pairs.{first-less, first-more, first-same}
 use Rattle.choice.proofs.order.key_precedes.Statement.{statement}
 use Rattle.choice.proofs.order.key_precedes.Tie as tie
 
-precedes-requires : tie.Need-precedes-requires
-precedes-requires c κs = search needs
-
 returns : tie.Need-returns
 unfolding keyOf
 returns c =
     let a = c .before .before .args in
     first-less 256 (precedenceOf (a .p)) (precedenceOf (a .q)) (a .h) (a .k) (ltb-true _ _ (sym (c .before .precedes .ensures) ∙ c .if1 .taken)) (omega arith)
-
-precedes-requires-2 : tie.Need-precedes-requires-2
-precedes-requires-2 c κs = search needs
 
 returns-2 : tie.Need-returns-2
 unfolding keyOf
@@ -37,5 +31,4 @@ returns-3 c =
     first-same 256 p q (a .h) (a .k) (omega (arith, m, n))
 
 pub key-precedes-spec : {M : Type 1} → statement M
-key-precedes-spec =
-    tie.close (tie.spec precedes-requires returns precedes-requires-2 returns-2 returns-3)
+key-precedes-spec = tie.close (tie.spec (λ c κs. search needs) returns (λ c κs. search needs) returns-2 returns-3)

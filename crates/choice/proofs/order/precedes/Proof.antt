@@ -7,12 +7,6 @@ use Rattle.numbers.proofs.Pairs.{first-less, first-more, first-same}
 use Rattle.choice.proofs.order.precedes.Statement.{statement}
 use Rattle.choice.proofs.order.precedes.Tie as tie
 
-high-requires : tie.Need-high-requires
-high-requires c κs = search needs
-
-high-requires-2 : tie.Need-high-requires-2
-high-requires-2 c κs = search needs
-
 returns : tie.Need-returns
 unfolding precedenceOf
 returns c =
@@ -32,4 +26,4 @@ returns-3 c =
     first-same (2 ^ 64) (highOf (a .p)) (highOf (a .q)) (a .p .clock) (a .q .clock) (omega arith)
 
 pub precedes-spec : {M : Type 1} → statement M
-precedes-spec = tie.close (tie.spec high-requires high-requires-2 returns returns-2 returns-3)
+precedes-spec = tie.close (tie.spec (λ c κs. search needs) (λ c κs. search needs) returns returns-2 returns-3)

@@ -1,4 +1,6 @@
 -- What Setup answers.
+use mathlib.Core.Path.{ap, _∙_}
+use Rattle.bridge.specs.Setup.{setupOf}
 use borrow.Author.Needs.{needs}
 use Rattle.command.proofs.changes.setup.Statement.{statement}
 use Rattle.command.proofs.changes.setup.Tie as tie
@@ -9,5 +11,8 @@ setup-spec =
     (tie.spec
     (λ c κs. search needs)
     (λ c κs. search needs)
+    (λ c κs. search needs)
     (λ c. search needs)
-    (λ c. rw (← c .before .before .before .before .set-up .ensures .0) (c .before .before .done .ensures)))
+    (λ c.
+    let s = c .before .before .before .before in
+    rw (← s .setup .ensures .0 ∙ ap setupOf (s .before .given .ensures)) (c .before .before .done .ensures)))

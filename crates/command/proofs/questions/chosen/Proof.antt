@@ -1,13 +1,21 @@
--- What Chosen answers.
+-- What is shown of the choice.
+use mathlib.Core.Path.{ap, _∙_}
+use Rattle.choice.specs.Choose.{shownPort, shownHop}
+use Rattle.columns.specs.Columns.{line2}
+use Rattle.answer.proofs.AnswerLaws.{as-prints}
 use borrow.Author.Needs.{needs}
 use Rattle.command.proofs.questions.chosen.Statement.{statement}
 use Rattle.command.proofs.questions.chosen.Tie as tie
 
+returns : tie.Need-returns
+returns c =
+    let h = c .before .before .before .before in
+    let p = h .before in
+    let d = p .before in
+    as-prints (λ i. line2 ((p .shown-port .ensures ∙ ap shownPort (d .chosen .ensures)) i) ((h .shown-hop .ensures ∙ ap shownHop (d .chosen .ensures)) i))
+    (c .before .before .two .ensures)
+
 pub chosen-spec : {M : Type 1} → statement M
 chosen-spec =
     tie.close
-    (tie.spec
-    (λ c κs. search needs)
-    (λ c κs. search needs)
-    (λ c. search needs)
-    (λ c. rw (← c .before .before .before .before .chosen .ensures) (c .before .before .candidate .ensures)))
+    (tie.spec (λ c κs. search needs) (λ c κs. search needs) (λ c κs. search needs) (λ c κs. search needs) (λ c. search needs) returns)

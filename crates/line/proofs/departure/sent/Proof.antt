@@ -29,23 +29,8 @@ both c = sym (c .oldest .given .1) ∙ c .before .before .ends .ensures
 lawful : (c : tie.After-oldest) → LawfulEnds (oldest c) (newest c)
 lawful c = ends-lawful (c .before .before .before .args .samples) _ _ (c .before .before .before .pre .0) (sym (both c))
 
-ends-requires : tie.Need-ends-requires
-ends-requires c κs = search needs
-
-enum-told : tie.Need-enum-told
-enum-told c = search needs
-
-enum-known-oldest : tie.Need-enum-known-oldest
-enum-known-oldest c = search needs
-
-since-requires : tie.Need-since-requires
-since-requires c κs = search needs
-
 returns : tie.Need-returns
 returns c = sent-late _ _ _ (both (c .before .before .before)) (omega arith)
-
-difference-requires : tie.Need-difference-requires
-difference-requires c κs = search needs
 
 -- where the two ends stand, seen from the departure's distance, and that distance as it is passed on
 abbrev found : tie.After-difference → tie.After-oldest
@@ -74,12 +59,6 @@ moment-is : (c : tie.After-reading) →
 unfolding sentTime
 moment-is c = c .reading .ensures ∙ rw (reach-is (c .before))
 
-enum-known-time : tie.Need-enum-known-time
-enum-known-time c = search needs
-
-enum-told-2 : tie.Need-enum-told-2
-enum-told-2 c = search needs
-
 returns-2 : tie.Need-returns-2
 returns-2 c = sent-through _ _ _ (sym (c .enum-told .given .1) ∙ c .before .before .ends .ensures)
 
@@ -96,16 +75,5 @@ returns-4 c =
 pub sent-spec : {M : Type 1} → statement M
 sent-spec =
     tie.close
-    (tie.spec
-    ends-requires
-    enum-told
-    enum-known-oldest
-    since-requires
-    returns
-    difference-requires
-    reading-requires
-    enum-known-time
-    enum-told-2
-    returns-2
-    returns-3
-    returns-4)
+    (tie.spec (λ c κs. search needs) (λ c. search needs) (λ c. search needs) (λ c κs. search needs) returns
+    (λ c κs. search needs) reading-requires (λ c. search needs) (λ c. search needs) returns-2 returns-3 returns-4)

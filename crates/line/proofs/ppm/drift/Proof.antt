@@ -30,15 +30,6 @@ lawful c = ends-lawful (c .before .before .before .args .samples) _ _ (c .before
 rate-is : (c : tie.After-rate-between) → toZ w64 (ofZ w64 (c .rate-between .result)) ≡ rateBetween (oldest (c .before .before)) (newest (c .before .before))
 rate-is c = got (c .rate-between .ok) (c .rate-between .ensures)
 
-ends-requires : tie.Need-ends-requires
-ends-requires c κs = search needs
-
-enum-told : tie.Need-enum-told
-enum-told c = search needs
-
-enum-known-oldest : tie.Need-enum-known-oldest
-enum-known-oldest c = search needs
-
 rate-between-requires : tie.Need-rate-between-requires
 rate-between-requires c κs = lawful (c .before)
 
@@ -55,13 +46,4 @@ returns-2 c =
     ap PartsPerMillion (c .parts-per-million .ensures ∙ ap ppmOf (rate-is (c .before))) ∙ ap driftThrough (both (c .before .before .before))
 
 pub drift-spec : {M : Type 1} → statement M
-drift-spec =
-    tie.close
-    (tie.spec
-    ends-requires
-    enum-told
-    enum-known-oldest
-    rate-between-requires
-    parts-per-million-requires
-    returns
-    returns-2)
+drift-spec = tie.close (tie.spec (λ c κs. search needs) (λ c. search needs) (λ c. search needs) rate-between-requires parts-per-million-requires returns returns-2)

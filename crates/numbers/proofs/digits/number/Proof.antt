@@ -30,22 +30,10 @@ fits c b h = room8 (c .before .loop .i + 1) (grows c b h) (omega (arith, c .befo
 mul-v : tie.Need-mul-v Inv-loop μ-loop
 mul-v c = omega (arith, fits c 0 (lit< tt))
 
-shared-slice-read-wide : tie.Need-shared-slice-read-wide Inv-loop μ-loop
-shared-slice-read-wide c = search needs
-
-wide-requires : tie.Need-wide-requires Inv-loop μ-loop
-wide-requires c κs = search needs
-
 add-v : tie.Need-add-v Inv-loop μ-loop
 add-v c =
     let b = c .before .shared-slice-known2 .given (c .before .before .before .loop .i) in
     omega (arith, fits (c .before .before) (c .wide .result) (omega arith))
-
-add-i : tie.Need-add-i Inv-loop μ-loop
-add-i c = search needs
-
-loop-less : tie.Need-loop-less Inv-loop μ-loop
-loop-less c = search needs
 
 loop-again : tie.Need-loop-again Inv-loop μ-loop
 loop-again c =
@@ -67,15 +55,5 @@ returns c =
 pub number-spec : {M : Type 1} → statement M
 number-spec =
     tie.close
-    (tie.spec
-    Inv-loop
-    μ-loop
-    loop-holds
-    mul-v
-    shared-slice-read-wide
-    wide-requires
-    add-v
-    add-i
-    loop-less
-    loop-again
-    returns)
+    (tie.spec Inv-loop μ-loop loop-holds mul-v (λ c. search needs) (λ c κs. search needs) add-v (λ c. search needs)
+    (λ c. search needs) loop-again returns)

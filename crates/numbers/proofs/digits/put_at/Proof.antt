@@ -8,24 +8,6 @@ use borrow.Author.Needs.{needs}
 use Rattle.numbers.proofs.digits.put_at.Statement.{statement}
 use Rattle.numbers.proofs.digits.put_at.Tie as tie
 
-add-put : tie.Need-add-put
-add-put c = search needs
-
-sub-put : tie.Need-sub-put
-sub-put c = search needs
-
-part-put-start : tie.Need-part-put-start
-part-put-start c = search needs
-
-part-put-end : tie.Need-part-put-end
-part-put-end c = search needs
-
-put-requires : tie.Need-put-requires
-put-requires c κs = search needs
-
-same-length : tie.Need-same-length
-same-length c = search needs
-
 returns : tie.Need-returns
 returns c =
     let a = c .before .before .before .before .before .args in
@@ -33,6 +15,4 @@ returns c =
     rw (c .before .before .put .ensures, add-sub-cancel-left, length-take-le (a .n) (drop (a .at) (a .out .now)) h, drop-drop)
 
 pub put-at-spec : {M : Type 1} → statement M
-put-at-spec =
-    tie.close
-    (tie.spec add-put sub-put part-put-start part-put-end put-requires same-length returns)
+put-at-spec = tie.close (tie.spec (λ c. search needs) (λ c. search needs) (λ c. search needs) (λ c. search needs) (λ c κs. search needs) (λ c. search needs) returns)

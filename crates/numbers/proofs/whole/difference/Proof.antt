@@ -5,12 +5,6 @@ use Rattle.numbers.proofs.Machine.{back, backN, minus-fits}
 use Rattle.numbers.proofs.whole.difference.Statement.{statement}
 use Rattle.numbers.proofs.whole.difference.Tie as tie
 
-cast-result : tie.Need-cast-result
-cast-result c = search needs
-
-cast-result-2 : tie.Need-cast-result-2
-cast-result-2 c = search needs
-
 sub-result : tie.Need-sub-result
 sub-result c = rw (backN (c .args .a) (c .pre .0), backN (c .args .b) (c .pre .1)) (minus-fits _ _ (c .pre .0) (c .pre .1))
 
@@ -18,4 +12,4 @@ returns : tie.Need-returns
 returns c = rw (backN (c .args .a) (c .pre .0), backN (c .args .b) (c .pre .1), back (pos (c .args .a) -ℤ pos (c .args .b)) (minus-fits _ _ (c .pre .0) (c .pre .1)))
 
 pub difference-spec : {M : Type 1} → statement M
-difference-spec = tie.close (tie.spec cast-result cast-result-2 sub-result returns)
+difference-spec = tie.close (tie.spec (λ c. search needs) (λ c. search needs) sub-result returns)

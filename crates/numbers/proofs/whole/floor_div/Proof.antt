@@ -57,9 +57,6 @@ sub-result c = rw (flipped c) (sfits (below (c .before)))
 cast-result : tie.Need-cast-result
 cast-result c = rw (flipped c, backN (size (c .before)) (below (c .before))) (tt, omega (arith, below (c .before)))
 
-div-result : tie.Need-div-result
-div-result c = search needs
-
 cast-result-2 : tie.Need-cast-result-2
 cast-result-2 c = rw (flipped c, backN (size (c .before)) (below (c .before))) (sfits (part (c .before)))
 
@@ -69,23 +66,11 @@ sub-result-2 c = rw (flipped c, backN (size (c .before)) (below (c .before)), ba
 cast-result-3 : tie.Need-cast-result-3
 cast-result-3 c = rw (reads-pos c) (tt, omega (arith, below (c .before)))
 
-div-result-2 : tie.Need-div-result-2
-div-result-2 c = search needs
-
 cast-result-4 : tie.Need-cast-result-4
 cast-result-4 c = rw (reads-pos c) (sfits (part (c .before)))
 
 pub floor-div-spec : {M : Type 1} → statement M
 floor-div-spec =
     tie.close
-    (tie.spec
-    sub-result
-    cast-result
-    div-result
-    cast-result-2
-    sub-result-2
-    cast-result-3
-    div-result-2
-    cast-result-4
-    returns
-    returns-2)
+    (tie.spec sub-result cast-result (λ c. search needs) cast-result-2 sub-result-2 cast-result-3 (λ c. search needs)
+    cast-result-4 returns returns-2)

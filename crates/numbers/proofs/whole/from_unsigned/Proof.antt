@@ -4,11 +4,8 @@ use Rattle.numbers.proofs.Machine.{backN}
 use Rattle.numbers.proofs.whole.from_unsigned.Statement.{statement}
 use Rattle.numbers.proofs.whole.from_unsigned.Tie as tie
 
-cast-result : tie.Need-cast-result
-cast-result c = search needs
-
 returns : tie.Need-returns
 returns c = backN (c .args .x) (c .pre)
 
 pub from-unsigned-spec : {M : Type 1} → statement M
-from-unsigned-spec = tie.close (tie.spec cast-result returns)
+from-unsigned-spec = tie.close (tie.spec (λ c. search needs) returns)

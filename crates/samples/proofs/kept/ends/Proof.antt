@@ -4,15 +4,6 @@ use Rattle.samples.specs.Keep.{endsOf}
 use Rattle.samples.proofs.kept.ends.Statement.{statement}
 use Rattle.samples.proofs.kept.ends.Tie as tie
 
-enum-told : tie.Need-enum-told
-enum-told c = search needs
-
-enum-told-2 : tie.Need-enum-told-2
-enum-told-2 c = search needs
-
-enum-known-samples : tie.Need-enum-known-samples
-enum-known-samples c = search needs
-
 returns : tie.Need-returns
 unfolding endsOf
 returns c = rw (c .enum-told .given .1)
@@ -26,5 +17,4 @@ unfolding endsOf
 returns-3 c = rw (c .before .samples .given .1)
 
 pub ends-spec : {M : Type 1} → statement M
-ends-spec =
-    tie.close (tie.spec enum-told enum-told-2 enum-known-samples returns returns-2 returns-3)
+ends-spec = tie.close (tie.spec (λ c. search needs) (λ c. search needs) (λ c. search needs) returns returns-2 returns-3)

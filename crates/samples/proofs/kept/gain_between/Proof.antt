@@ -17,20 +17,8 @@ rose : (c : tie.After-n) →
     (units (s .args .a .grand) + c .n .given .0 .0 ≡ units (s .args .b .grand)) × (c .n .given .0 .0 < second)
 rose c = by-rise _ _ _ (sym (c .n .given .1) ∙ c .before .before .risen .ensures)
 
-since-requires : tie.Need-since-requires
-since-requires c κs = search needs
-
-risen-requires : tie.Need-risen-requires
-risen-requires c κs = search needs
-
-enum-known-n : tie.Need-enum-known-n
-enum-known-n c = search needs
-
 gained-requires : tie.Need-gained-requires
 gained-requires c κs = omega (arith, rose (c .before))
-
-enum-told : tie.Need-enum-told
-enum-told c = search needs
 
 returns : tie.Need-returns
 returns c =
@@ -45,13 +33,4 @@ returns-2 c =
     far-rise _ _ (sym (c .enum-told .given .1) ∙ c .before .before .risen .ensures) (r .0) (r .1))
 
 pub gain-between-spec : {M : Type 1} → statement M
-gain-between-spec =
-    tie.close
-    (tie.spec
-    since-requires
-    risen-requires
-    enum-known-n
-    gained-requires
-    enum-told
-    returns
-    returns-2)
+gain-between-spec = tie.close (tie.spec (λ c κs. search needs) (λ c κs. search needs) (λ c. search needs) gained-requires (λ c. search needs) returns returns-2)

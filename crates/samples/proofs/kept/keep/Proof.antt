@@ -5,30 +5,15 @@ use Rattle.samples.proofs.KeepLaws.{kept-other, kept-first, kept-one, k
 use Rattle.samples.proofs.kept.keep.Statement.{statement}
 use Rattle.samples.proofs.kept.keep.Tie as tie
 
-enum-told : tie.Need-enum-told
-enum-told c = search needs
-
-enum-known-old : tie.Need-enum-known-old
-enum-known-old c = search needs
-
 gain-between-requires : tie.Need-gain-between-requires
 gain-between-requires c κs =
     let lawful = rw (c .before .old .given .1) at (c .before .before .before .before .pre .0) in
     search needs
 
-kept-by-requires : tie.Need-kept-by-requires
-kept-by-requires c κs = search needs
-
-enum-known-old-2 : tie.Need-enum-known-old-2
-enum-known-old-2 c = search needs
-
 gain-between-requires-2 : tie.Need-gain-between-requires-2
 gain-between-requires-2 c κs =
     let lawful = rw (c .before .old2 .given .1) at (c .before .before .before .before .pre .0) in
     search needs
-
-kept-by-requires-2 : tie.Need-kept-by-requires-2
-kept-by-requires-2 c κs = search needs
 
 returns : tie.Need-returns
 returns c = kept-first _ _ _ (c .before .before .if1 .taken) (c .enum-told .given .1)
@@ -49,15 +34,5 @@ returns-4 c = kept-other _ _ _ (c .if1 .left)
 pub keep-spec : {M : Type 1} → statement M
 keep-spec =
     tie.close
-    (tie.spec
-    enum-told
-    enum-known-old
-    gain-between-requires
-    kept-by-requires
-    enum-known-old-2
-    gain-between-requires-2
-    kept-by-requires-2
-    returns
-    returns-2
-    returns-3
-    returns-4)
+    (tie.spec (λ c. search needs) (λ c. search needs) gain-between-requires (λ c κs. search needs) (λ c. search needs)
+    gain-between-requires-2 (λ c κs. search needs) returns returns-2 returns-3 returns-4)

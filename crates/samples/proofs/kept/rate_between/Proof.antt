@@ -26,20 +26,8 @@ gain-is c = within-gain _ _ _ (sym (c .d .given .1) ∙ c .before .before .gain-
 passed : (c : tie.After-known-told) → toZ w64 (ofZ w64 (c .before .d .given .0 .0)) ≡ c .before .d .given .0 .0
 passed c = back (c .before .d .given .0 .0) (sfits (c .known-told .given .0 .1))
 
-gain-between-requires : tie.Need-gain-between-requires
-gain-between-requires c κs = search needs
-
-enum-known-d : tie.Need-enum-known-d
-enum-known-d c = search needs
-
-since-requires : tie.Need-since-requires
-since-requires c κs = search needs
-
 rate-requires : tie.Need-rate-requires
 rate-requires c κs = rw (passed (c .before), c .since .ensures) (gain-is (c .before .before) .1)
-
-enum-told : tie.Need-enum-told
-enum-told c = search needs
 
 returns : tie.Need-returns
 returns c =
@@ -55,13 +43,4 @@ returns-2 c =
     absurd (outside-gain (riseOf (s .args .oldest) (s .args .newest)) (spread s) (sym (c .enum-told .given .1) ∙ c .before .before .gain-between .ensures) (s .pre .limits))
 
 pub rate-between-spec : {M : Type 1} → statement M
-rate-between-spec =
-    tie.close
-    (tie.spec
-    gain-between-requires
-    enum-known-d
-    since-requires
-    rate-requires
-    enum-told
-    returns
-    returns-2)
+rate-between-spec = tie.close (tie.spec (λ c κs. search needs) (λ c. search needs) (λ c κs. search needs) rate-requires (λ c. search needs) returns returns-2)

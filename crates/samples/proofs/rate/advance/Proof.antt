@@ -16,9 +16,6 @@ stretch-is c = back (c .args .u) (c .fits .u)
 gain-is : (c : tie.After-scaled) → toZ w64 (ofZ w64 (c .scaled .result)) ≡ scaledOf (c .before .args .rate) (c .before .args .u)
 gain-is c = got (c .scaled .ok) (c .scaled .ensures ∙ rw (back (c .before .args .rate) (c .before .fits .rate), stretch-is (c .before)))
 
-scaled-requires : tie.Need-scaled-requires
-scaled-requires c κs = search needs
-
 add-requires : tie.Need-add-requires
 add-requires c κs =
     let s = c .before in
@@ -28,4 +25,4 @@ returns : tie.Need-returns
 returns c = got (c .add .ok) (c .add .ensures ∙ rw (stretch-is (c .before .before), gain-is (c .before)))
 
 pub advance-spec : {M : Type 1} → statement M
-advance-spec = tie.close (tie.spec scaled-requires add-requires returns)
+advance-spec = tie.close (tie.spec (λ c κs. search needs) add-requires returns)

@@ -1,4 +1,4 @@
--- Each limit is tested in turn; the abs of the gain is that of a difference below 2^48.
+-- Each limit is tested in turn; the size of the gain is that of a difference below 2^48.
 use borrow.Author.Needs.{needs}
 use mathlib.Core.Path.{_≡_, ap, _∙_}
 use Prim.Native.Nat.{_^_}
@@ -29,12 +29,6 @@ returns c = gain-outside _ _ (λ k. omega arith)
 returns-2 : tie.Need-returns-2
 returns-2 c = gain-outside _ _ (λ k. omega arith)
 
-difference-requires : tie.Need-difference-requires
-difference-requires c κs = search needs
-
-abs-requires : tie.Need-abs-requires
-abs-requires c κs = search needs
-
 mul-if3 : tie.Need-mul-if3
 mul-if3 c =
     let s = c .before .before .before .before in
@@ -54,6 +48,4 @@ returns-4 : tie.Need-returns-4
 returns-4 c = gain-outside _ _ (λ k. omega (arith, abs-is (c .before)))
 
 pub gained-spec : {M : Type 1} → statement M
-gained-spec =
-    tie.close
-    (tie.spec returns returns-2 difference-requires abs-requires mul-if3 returns-3 returns-4)
+gained-spec = tie.close (tie.spec returns returns-2 (λ c κs. search needs) (λ c κs. search needs) mul-if3 returns-3 returns-4)

@@ -7,18 +7,6 @@ use Rattle.times.proofs.TimeLaws.{since-lt}
 use Rattle.samples.proofs.rate.neighbour_rate.Statement.{statement}
 use Rattle.samples.proofs.rate.neighbour_rate.Tie as tie
 
-enum-told : tie.Need-enum-told
-enum-told c = search needs
-
-enum-known-pair : tie.Need-enum-known-pair
-enum-known-pair c = search needs
-
-since-requires : tie.Need-since-requires
-since-requires c κs = search needs
-
-since-requires-2 : tie.Need-since-requires-2
-since-requires-2 c κs = search needs
-
 rate-of-rise-requires : tie.Need-rate-of-rise-requires
 rate-of-rise-requires c κs = rw (c .before .since .ensures) (since-lt _ _)
 
@@ -33,13 +21,4 @@ returns-2 c =
     (got (c .rate-of-rise .ok) (c .rate-of-rise .ensures ∙ rw (c .before .since2 .ensures, c .before .before .since .ensures)))
 
 pub neighbour-rate-spec : {M : Type 1} → statement M
-neighbour-rate-spec =
-    tie.close
-    (tie.spec
-    enum-told
-    enum-known-pair
-    since-requires
-    since-requires-2
-    rate-of-rise-requires
-    returns
-    returns-2)
+neighbour-rate-spec = tie.close (tie.spec (λ c. search needs) (λ c. search needs) (λ c κs. search needs) (λ c κs. search needs) rate-of-rise-requires returns returns-2)

@@ -17,9 +17,6 @@ gain-is c = back (c .args .d) (c .fits .d)
 mul-requires : tie.Need-mul-requires
 mul-requires c κs = rw (gain-is c) (omega (arith, c .pre .high, c .pre .near))
 
-floor-div-requires : tie.Need-floor-div-requires
-floor-div-requires c κs = search needs
-
 returns : tie.Need-returns
 unfolding rateOf
 returns c =
@@ -30,4 +27,4 @@ returns c =
     (got (p .mul .ok) (p .mul .ensures ∙ ap (λ (z : ℤ). z *ℤ pos parts) (gain-is (p .before)))))
 
 pub rate-spec : {M : Type 1} → statement M
-rate-spec = tie.close (tie.spec mul-requires floor-div-requires returns)
+rate-spec = tie.close (tie.spec mul-requires (λ c κs. search needs) returns)

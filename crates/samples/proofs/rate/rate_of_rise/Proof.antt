@@ -22,17 +22,8 @@ within c = sym (c .d .given .1) ∙ c .before .before .gained .ensures
 gain-is : (c : tie.After-known-told) → toZ w64 (ofZ w64 (c .before .d .given .0 .0)) ≡ c .before .d .given .0 .0
 gain-is c = back (c .before .d .given .0 .0) (sfits (c .known-told .given .0 .1))
 
-gained-requires : tie.Need-gained-requires
-gained-requires c κs = search needs
-
-enum-known-d : tie.Need-enum-known-d
-enum-known-d c = search needs
-
 rate-requires : tie.Need-rate-requires
 rate-requires c κs = rw (gain-is c) (within-gain _ _ _ (within (c .before)) .1)
-
-enum-told : tie.Need-enum-told
-enum-told c = search needs
 
 returns : tie.Need-returns
 returns c =
@@ -45,5 +36,4 @@ returns-2 c =
     ap (λ (g : Gain). rateWithin g (c .before .before .before .args .s)) (sym (c .enum-told .given .1) ∙ c .before .before .gained .ensures)
 
 pub rate-of-rise-spec : {M : Type 1} → statement M
-rate-of-rise-spec =
-    tie.close (tie.spec gained-requires enum-known-d rate-requires enum-told returns returns-2)
+rate-of-rise-spec = tie.close (tie.spec (λ c κs. search needs) (λ c. search needs) rate-requires (λ c. search needs) returns returns-2)

@@ -1,4 +1,4 @@
--- The mul of the rate and the stretch, out of its parts.
+-- The product of the rate and the stretch, out of its parts.
 use borrow.Author.Needs.{needs}
 use mathlib.Core.Path.{_≡_, ap, _∙_}
 use native.Mathlib.Nat.{mul-le-mul-right}
@@ -25,12 +25,9 @@ mul-requires : tie.Need-mul-requires
 mul-requires c κs =
     rw (rate-is c, stretch-is c) (omega (arith, c .pre .1, mul-le-mul-right (natAbs (c .args .u)) (c .pre .0)))
 
-floor-div-requires : tie.Need-floor-div-requires
-floor-div-requires c κs = search needs
-
 returns : tie.Need-returns
 unfolding scaledOf
 returns c = got (c .floor-div .ok) (c .floor-div .ensures ∙ ap (λ (z : ℤ). floorDiv z parts) (mul-is (c .before)))
 
 pub scaled-spec : {M : Type 1} → statement M
-scaled-spec = tie.close (tie.spec mul-requires floor-div-requires returns)
+scaled-spec = tie.close (tie.spec mul-requires (λ c κs. search needs) returns)

@@ -24,17 +24,8 @@ returns-2 c =
     let s = c .before .before .before .before in
     moment-under (units (s .args .g)) (s .args .n) (omega arith)
 
-sub-t6 : tie.Need-sub-t6
-sub-t6 c = search needs
-
-add-t7 : tie.Need-add-t7
-add-t7 c = search needs
-
-sub-t8 : tie.Need-sub-t8
-sub-t8 c = search needs
-
 returns-3 : tie.Need-returns-3
 returns-3 c = lies (c .before .before .before .before .before .before) _ (record { seconds = omega arith; fraction = omega arith }) (omega arith)
 
 pub earlier-spec : {M : Type 1} → statement M
-earlier-spec = tie.close (tie.spec returns returns-2 sub-t6 add-t7 sub-t8 returns-3)
+earlier-spec = tie.close (tie.spec returns returns-2 (λ c. search needs) (λ c. search needs) (λ c. search needs) returns-3)

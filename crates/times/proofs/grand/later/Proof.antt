@@ -7,12 +7,6 @@ use Rattle.times.proofs.TimeLaws.{moment-at, moment-end}
 use Rattle.times.proofs.grand.later.Statement.{statement}
 use Rattle.times.proofs.grand.later.Tie as tie
 
-add-total : tie.Need-add-total
-add-total c = search needs
-
-add-seconds : tie.Need-add-seconds
-add-seconds c = search needs
-
 returns : tie.Need-returns
 returns c = moment-at _ _ (record { seconds = omega arith; fraction = omega arith }) (ap pos (omega arith))
 
@@ -20,4 +14,4 @@ returns-2 : tie.Need-returns-2
 returns-2 c = moment-end _ (omega arith)
 
 pub later-spec : {M : Type 1} → statement M
-later-spec = tie.close (tie.spec add-total add-seconds returns returns-2)
+later-spec = tie.close (tie.spec (λ c. search needs) (λ c. search needs) returns returns-2)

@@ -21,12 +21,6 @@ size c = c .abs .ensures ∙ ap natAbs (same-x (c .before))
 sign : (c : tie.After-is-negative) → c .is-negative .result ≡ ltZ (c .before .before .args .x) (pos 0)
 sign c = c .is-negative .ensures ∙ ap (λ (y : ℤ). ltZ y (pos 0)) (same-x (c .before .before))
 
-abs-requires : tie.Need-abs-requires
-abs-requires c κs = search needs
-
-is-negative-requires : tie.Need-is-negative-requires
-is-negative-requires c κs = search needs
-
 earlier-requires : tie.Need-earlier-requires
 earlier-requires c κs = (search needs, omega (arith, size (c .before .before)))
 
@@ -46,6 +40,4 @@ returns-2 c =
     c .later .ensures ∙ ap momentOf (moved-up (units (s .args .g)) _ (s .args .x) (sym (sign (t .before)) ∙ t .if1 .left) (size (t .before .before)))
 
 pub moved-spec : {M : Type 1} → statement M
-moved-spec =
-    tie.close
-    (tie.spec abs-requires is-negative-requires earlier-requires later-requires returns returns-2)
+moved-spec = tie.close (tie.spec (λ c κs. search needs) (λ c κs. search needs) earlier-requires later-requires returns returns-2)
