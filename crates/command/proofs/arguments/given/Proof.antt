@@ -7,21 +7,19 @@ use Rattle.command.proofs.arguments.given.Tie as tie
 returns : tie.Need-returns
 unfolding setupIn
 returns c =
-    let s = c .before in
-    let n = s .before in
+    let n = c .before in
     let u = n .before in
     let p = u .before .before in
     let m = p .before in
     let b = m .before in
-    let t = b .before in
     λ i. record {
       n = b .byte .ensures i;
       mac = m .mac .ensures i;
       own = p .precedence .ensures i;
-      capable = flagIn (t .args .form) 3;
+      capable = flagIn (b .before .before .args .t1) 3;
       timeout = u .number-or .ensures i;
       back = n .number-or2 .ensures i;
-      settings = s .settings .ensures i;
+      settings = c .settings .ensures i;
     }
 
 pub given-spec : {M : Type 1} → statement M
