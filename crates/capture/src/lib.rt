@@ -1,15 +1,13 @@
 // The lines of a capture: a port, an arrival and a frame each; printed are the bridge's answer and the clock that is chosen then.
 ghost use mathlib.Core.Path.{_≡_};
-ghost use mathlib.Core.Bool.{true};
 ghost use Prim.Native.Nat.{_≤_};
 ghost use lib.ListN.{length};
 ghost use Rattle.bridge.specs.State.{Lawful};
 ghost use Rattle.columns.specs.Columns.{longestAnswer, Prints};
 ghost use Rattle.answer.specs.Answer.{Says};
-ghost use Rattle.capture.specs.Capture.{isLine, startOf, listedText, receivedOf, listedOf};
+ghost use Rattle.capture.specs.Capture.{isLine, startOf, listedText, listedOf};
 use answer::Answered;
 use bridge::Bridge;
-use bridge::Done;
 use choice::Candidate;
 use choice::candidates;
 use hexline::digits;
@@ -67,19 +65,6 @@ fn is_line(text: &[u8]) -> bool
     false
 }
 
-// What the bridge makes of a line.
-fn received(b: Bridge, text: &[u8]) -> Done
-    requires { ⌜ Lawful b ⌝ }
-    requires { ⌜ isLine (now text) ≡ true ⌝ }
-    ensures { λ r. ⌜ r ≡ receivedOf b (now (text .entry)) ⌝ }
-    ensures { λ r. ⌜ Lawful (r .next) ⌝ }
-{
-    let mut line = [0u8; 71];
-    digits::bytes(text, &mut line);
-    let arrival = numbers::digits::number_at(&line, ARRIVAL_PLACE, ARRIVAL_BYTES);
-    bridge::receive(b, line[PORT_PLACE], &line[FRAME_PLACE..], arrival)
-}
-
 // The state after a line, and what is printed for it in out.
 pub fn answer_line(b: Bridge, text: &[u8], out: &mut [u8]) -> Answered
     requires { ⌜ Lawful b ⌝ }
@@ -92,7 +77,10 @@ pub fn answer_line(b: Bridge, text: &[u8], out: &mut [u8]) -> Answered
             len: listed(bridge::chosen(b), refusals::BAD_LINE, out),
         };
     }
-    let done = received(b, text);
+    let mut line = [0u8; 71];
+    digits::bytes(text, &mut line);
+    let arrival = numbers::digits::number_at(&line, ARRIVAL_PLACE, ARRIVAL_BYTES);
+    let done = bridge::receive(b, line[PORT_PLACE], &line[FRAME_PLACE..], arrival);
     let next = done.next;
     Answered {
         next: next,

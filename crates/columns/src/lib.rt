@@ -19,6 +19,9 @@ pub const SPACE: u64 = b' ' as u64;
 
 pub const NEWLINE: u64 = b'\n' as u64;
 
+// The longest line that is printed: an answer, a space, 128 bytes as digits, a newline.
+pub const LONGEST_ANSWER: usize = 260;
+
 // The mark of no bytes.
 const NO_BYTES: u64 = b'-' as u64;
 

@@ -13,14 +13,14 @@ use Rattle.refusals.specs.Refusals.{badLine as badNumber}
 use Rattle.bridge.specs.declared.Bridge.{Bridge}
 use Rattle.hexline.specs.Search.{upTo, foundAt}
 use Rattle.answer.specs.Answer.{Answer, badLine}
-use Rattle.capture.specs.Capture.{toldOf}
-use Rattle.console.specs.Answer.{longestLine}
+use Rattle.capture.specs.Capture.{listedAs}
+use Rattle.command.specs.Answer.{longestLine}
 use Rattle.session.specs.Session.{newline, keptBytes, part, answerBy, Fed, left, saying, ended, fedOf, keptOf}
 use Rattle.session.specs.declared.Program.{Program}
 use Rattle.session.specs.declared.Program.the-variants.{Listing, Replay}
 use Rattle.hexline.proofs.SearchLaws.{up-taken}
 use Rattle.capture.proofs.CaptureLaws.{listed-long}
-use Rattle.console.proofs.AnswerLaws.{formed-long, answer-bad}
+use Rattle.command.proofs.AnswerLaws.{answer-long}
 
 -- ---- lists
 
@@ -180,12 +180,12 @@ module _ (p : Program) where
 
   -- is answered as bad by each program
   abbrev badBy : Program → Bridge → Answer
-  badBy Listing b = toldOf b badNumber
+  badBy Listing b = listedAs b badNumber
   badBy Replay b = badLine b
 
   long-answer : (p : Program) (b : Bridge) (s : List ℕ) → longestLine < length s → badBy p b ≡ answerBy p b s
   long-answer Listing b s h = listed-long b s (omega arith)
-  long-answer Replay b s h = answer-bad b s (formed-long _ s h)
+  long-answer Replay b s h = answer-long b s h
 
   -- so what is kept of a line is answered as the whole line is
   pub kept-answers : (b : Bridge) (line : List ℕ) → answerBy p b (take keptBytes line) ≡ answerBy p b line

@@ -10,7 +10,7 @@ use Rattle.bridge.specs.Setup.{noBridge}
 use Rattle.bridge.specs.declared.Bridge.{Bridge}
 use Rattle.answer.specs.Answer.{Answer}
 use Rattle.capture.specs.Capture.{startOf, listedOf}
-use Rattle.console.specs.Answer.{longestLine, answerOf}
+use Rattle.command.specs.Answer.{longestLine, answerOf}
 use Rattle.session.specs.declared.Program.{Program}
 use Rattle.session.specs.declared.Program.the-variants.{Listing, Replay}
 use Rattle.session.specs.declared.Session.{Session}

@@ -4,16 +4,13 @@ ghost use mathlib.Core.List.{[]};
 ghost use Prim.Native.Nat.{_≤_};
 ghost use lib.ListN.{length, take};
 ghost use Rattle.bridge.specs.State.{Lawful};
-ghost use Rattle.bridge.specs.Setup.{noBridge};
-ghost use Rattle.words.specs.Said.{longest};
+ghost use Rattle.columns.specs.Columns.{longestAnswer};
 ghost use Rattle.answer.specs.Answer.{Says};
 ghost use Rattle.session.specs.Session.{keptBytes, answerBy, startBy, part, ended, saying, fedOf, keptOf, lineOf, Ready, Within, Turned};
 use answer::Answered;
 use bridge::Bridge;
-use choice::Precedence;
-use frame::Mac;
 use hexline::searching;
-use words::LONGEST_ANSWER;
+use columns::LONGEST_ANSWER;
 
 // What answers the lines.
 pub enum Program {
@@ -25,7 +22,7 @@ pub enum Program {
 const NEWLINE: u8 = b'\n';
 
 // What is kept of a line: one byte more than the longest line has, so that the start of a longer one is no line either.
-const KEPT: usize = console::LONGEST_LINE + 1;
+const KEPT: usize = command::LONGEST_LINE + 1;
 
 // What is kept from read to read: the bridge, and the line as far as it is read.
 pub struct Session {
@@ -48,31 +45,6 @@ struct Lines {
     rest: usize,
 }
 
-// The bridge of a refused Setup.
-fn no_bridge() -> Bridge
-    ensures { λ r. ⌜ r ≡ noBridge ⌝ }
-    ensures { λ r. ⌜ Lawful r ⌝ }
-{
-    let nobody = Mac(0, 0, 0, 0, 0, 0);
-    let least = Precedence {
-        priority1: 0,
-        source: 0,
-        variance: 0,
-        priority2: 0,
-        clock: 0,
-    };
-    let refused = bridge::setup(
-        0,
-        nobody,
-        least,
-        false,
-        0,
-        0,
-        table::records::measured_settings(),
-    );
-    refused.next
-}
-
 // A program's bridge before the first line.
 fn first_bridge(program: Program) -> Bridge
     ensures { λ r. ⌜ r ≡ startBy program ⌝ }
@@ -80,7 +52,7 @@ fn first_bridge(program: Program) -> Bridge
 {
     match program {
         Program::Listing => capture::start(),
-        Program::Replay => no_bridge(),
+        Program::Replay => command::start(),
     }
 }
 
@@ -100,12 +72,12 @@ pub fn start(program: Program) -> Session
 // The state after a line, and what the program prints for it in out.
 fn answer_line(program: Program, b: Bridge, text: &[u8], out: &mut [u8]) -> Answered
     requires { ⌜ Lawful b ⌝ }
-    requires { ⌜ longest ≤ length (now out) ⌝ }
+    requires { ⌜ longestAnswer ≤ length (now out) ⌝ }
     ensures { λ r. ⌜ Says (answerBy program b (now (text .entry))) r (now (out .entry)) (now (out .exit)) ⌝ }
 {
     match program {
         Program::Listing => capture::answer_line(b, text, out),
-        Program::Replay => console::answer_line(b, text, out),
+        Program::Replay => command::answer_line(b, text, out),
     }
 }
 
@@ -162,7 +134,7 @@ fn whole_lines(
 // Answers lines that end in the bytes from `from` on, as long as the output has room; where none ends, keeps the start of one.
 pub fn turn(program: Program, s: Session, bytes: &[u8], from: usize, out: &mut [u8]) -> Progress
     requires { ⌜ Ready s ⌝ }
-    requires { ⌜ (from ≤ length (now bytes)) × (longest ≤ length (now out)) ⌝ }
+    requires { ⌜ (from ≤ length (now bytes)) × (longestAnswer ≤ length (now out)) ⌝ }
     ensures { λ r. ⌜ Turned program s (now (bytes .entry)) from r (now (out .exit)) ⌝ }
 {
     let b = s.bridge;

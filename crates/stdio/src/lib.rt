@@ -1,7 +1,7 @@
 // A program over standard input and output: lines to the end of the input, and their answers.
 ghost use Prim.Native.Nat.{_≤_};
 ghost use lib.ListN.{length};
-ghost use Rattle.words.specs.Said.{longest};
+ghost use Rattle.columns.specs.Columns.{longestAnswer};
 ghost use Rattle.session.specs.Session.{fedOf, lineOf, Ready, Leaves};
 use libc::STDIN_FILENO;
 use libc::STDOUT_FILENO;
@@ -11,7 +11,7 @@ use session::Session;
 // Answers what a read gave, and writes the answers.
 fn answered(program: Program, s: Session, bytes: &[u8], out: &mut [u8]) -> Session
     requires { ⌜ Ready s ⌝ }
-    requires { ⌜ longest ≤ length (now out) ⌝ }
+    requires { ⌜ longestAnswer ≤ length (now out) ⌝ }
     ensures { λ r. ⌜ Ready r ⌝ }
     ensures { λ r. ⌜ Leaves (fedOf program (s .bridge) (lineOf s) (now (bytes .entry))) r ⌝ }
 {

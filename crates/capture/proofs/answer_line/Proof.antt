@@ -1,10 +1,14 @@
--- By whether the text is a line.
-use mathlib.Core.Path.{refl, sym, ap, _∙_}
+-- By whether the text is a line; the parts of a line's 71 bytes are received.
+use mathlib.Core.Path.{_≡_, refl, sym, ap, _∙_}
+use native.Mathlib.Omega.{arith}
 use borrow.Author.Needs.{needs}
 use borrow.Author.Tests.{not-true, not-false}
-use Rattle.capture.specs.Capture.{listedText}
+use lib.ListN.{take, drop, getD, length-drop}
+use lib.Seq.{take-all}
+use Rattle.bridge.specs.Receive.{receiveOf}
+use Rattle.capture.specs.Capture.{listedText, receivedFrom}
 use Rattle.answer.proofs.AnswerLaws.{as-says, as-prints}
-use Rattle.capture.proofs.CaptureLaws.{listed-bad, listed-done}
+use Rattle.capture.proofs.CaptureLaws.{line-length, listed-bad, listed-done}
 use Rattle.capture.proofs.answer_line.Statement.{statement}
 use Rattle.capture.proofs.answer_line.Tie as tie
 
@@ -17,20 +21,27 @@ returns c =
     as-says (listed-bad (s .args .b) (s .args .text .now) (sym (l .is-line .ensures) ∙ not-true _ (h .before .if1 .taken)))
     (record { state = refl; prints = as-prints (ap (listedText _) (h .chosen .ensures)) (t .listed .ensures); lawful = s .pre .0 })
 
-received-requires : tie.Need-received-requires
-received-requires c κs =
-    let l = c .before in
-    (l .before .before .before .pre .0, sym (l .is-line .ensures) ∙ not-false _ (c .if1 .left))
+bytes-requires : tie.Need-bytes-requires
+bytes-requires c κs =
+    let i = c .before in
+    line-length _ (sym (i .before .is-line .ensures) ∙ not-false _ (i .if1 .left))
 
 returns-2 : tie.Need-returns-2
 returns-2 c =
     let t = c .before .before in
     let h = t .before .before in
     let r = h .before .before in
-    let l = r .before .before in
+    let a = r .before .before .before in
+    let y = a .before .before .before in
+    let i = y .before .before in
+    let l = i .before in
     let s = l .before .before .before in
-    as-says (listed-done (s .args .b) (s .args .text .now) (r .received .result) (sym (l .is-line .ensures) ∙ not-false _ (r .before .if1 .left)) (r .received .ensures .0))
-    (record { state = refl; prints = as-prints (ap (listedText _) (h .chosen2 .ensures)) (t .listed2 .ensures); lawful = r .received .ensures .1 })
+    let b = s .args .b in
+    let x = y .bytes .last .1 .0 in
+    let whole : take 64 (drop 7 x) ≡ drop 7 x = take-all 64 (drop 7 x) (rw (length-drop 7 x) (omega (arith, y .bytes .kept .1 .0))) in
+    let done = r .receive .ensures .0 ∙ (λ j. receiveOf b (getD x 0 0) (whole j) (a .number-at .ensures .0 j)) ∙ ap (receivedFrom b) (y .bytes .ensures) in
+    as-says (listed-done b (s .args .text .now) (r .receive .result) (sym (l .is-line .ensures) ∙ not-false _ (i .if1 .left)) done)
+    (record { state = refl; prints = as-prints (ap (listedText _) (h .chosen2 .ensures)) (t .listed2 .ensures); lawful = r .receive .ensures .1 })
 
 pub answer-line-spec : {M : Type 1} → statement M
 answer-line-spec =
@@ -41,7 +52,15 @@ answer-line-spec =
     (λ c κs. search needs)
     (λ c. search needs)
     returns
-    received-requires
+    (λ c. search needs)
+    bytes-requires
+    (λ c. search needs)
+    (λ c κs. search needs)
+    (λ c. search needs)
+    (λ c. search needs)
+    (λ c. search needs)
+    (λ c. search needs)
+    (λ c κs. search needs)
     (λ c κs. search needs)
     (λ c κs. search needs)
     (λ c. search needs)

@@ -9,7 +9,7 @@ use borrow.Rule.Slice.PartMut.{same-len-mid}
 use lib.ListN.{length, take, drop, length-take, length-drop}
 use Rattle.bridge.specs.State.{Lawful}
 use Rattle.hexline.specs.Search.{foundAt}
-use Rattle.words.specs.Said.{longest}
+use Rattle.columns.specs.Columns.{longestAnswer}
 use Rattle.session.specs.Session.{newline, part, saying, ended, fedOf, Within}
 use Rattle.hexline.proofs.SearchLaws.{found-within}
 use Rattle.session.proofs.SessionLaws.{lines-none, lines-on, printed}
@@ -26,7 +26,7 @@ abbrev μ-loop : tie.MeasureT-loop
 μ-loop program bytes from out₀ filled next₀ n₀ start₀ end₀ out next n start end = length bytes - end
 
 -- a turn has room for one more answer
-room : (c : tie.Then1 Inv-loop μ-loop) → longest ≤ length (c .before .before .loop .out) - c .before .before .loop .n
+room : (c : tie.Then1 Inv-loop μ-loop) → longestAnswer ≤ length (c .before .before .loop .out) - c .before .before .loop .n
 room c = leb-true _ _ (c .if1 .taken)
 
 loop-holds : tie.Need-loop-holds Inv-loop μ-loop
