@@ -10,7 +10,7 @@ use lib.ListN.{length}
 use Rattle.refusals.specs.Refusals.{badLine}
 use Rattle.bridge.specs.declared.Bridge.{Bridge}
 use Rattle.bridge.specs.declared.Done.{Done}
-use Rattle.hexline.specs.Digit.{allDigits}
+use Rattle.hex.specs.Digit.{allDigits}
 use Rattle.capture.specs.Capture.{lineDigits, isLine, listedAs, receivedOf, doneOf, listedOf}
 use Rattle.numbers.proofs.Branches.{if-true, if-false}
 

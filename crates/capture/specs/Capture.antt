@@ -15,7 +15,7 @@ use Rattle.bridge.specs.Chosen.{chosenOf}
 use Rattle.bridge.specs.Receive.{receiveOf}
 use Rattle.bridge.specs.declared.Bridge.{Bridge}
 use Rattle.bridge.specs.declared.Done.{Done}
-use Rattle.hexline.specs.Digit.{allDigits, pairs}
+use Rattle.hex.specs.Digit.{allDigits, pairs}
 use Rattle.columns.specs.Columns.{line3}
 use Rattle.answer.specs.Answer.{Answer, says}
 

@@ -10,7 +10,7 @@ use answer::Answered;
 use bridge::Bridge;
 use choice::Candidate;
 use choice::candidates;
-use hexline::digits;
+use hex::digits;
 use table::records;
 
 // The listing's bridge: two ports, both linked.

@@ -8,8 +8,8 @@ use lib.ListN.{length, take, drop, getD, take-append-drop, length-append}
 use lib.Seq.{drop-cons, length-take-le, take-append-le, take-take, take-at, drop-at, drop-drop}
 use Rattle.numbers.specs.Digits.{digits}
 use Rattle.numbers.proofs.Places.{length-digits}
-use Rattle.hexline.specs.Print.{textOf, withByte}
-use Rattle.hexline.proofs.PrintLaws.{with-byte, text-append, length-text}
+use Rattle.hex.specs.Print.{textOf, withByte}
+use Rattle.hex.proofs.PrintLaws.{with-byte, text-append, length-text}
 use Rattle.columns.specs.Columns.{newline, noBytesMark, mostBytes, longestAnswer, columnText, columnsText, columnRoom, room, bytesText, bytesLine, Prints}
 
 -- ---- the cases of a column and of bytes

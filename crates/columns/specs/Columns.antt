@@ -4,7 +4,7 @@ use mathlib.Core.Path.{_≡_}
 use mathlib.Core.List.{List, [], _∷_, _++_}
 use lib.ListN.{length, drop}
 use Rattle.numbers.specs.Digits.{digits}
-use Rattle.hexline.specs.Print.{textOf}
+use Rattle.hex.specs.Print.{textOf}
 
 abbrev pub space : ℕ
 space = 32

@@ -4,10 +4,10 @@ ghost use mathlib.Core.List.{_++_};
 ghost use Prim.Native.Nat.{_+_, _*_, _≤_};
 ghost use lib.ListN.{length, take, drop};
 ghost use Rattle.numbers.specs.Digits.{digits};
-ghost use Rattle.hexline.specs.Print.{textOf};
+ghost use Rattle.hex.specs.Print.{textOf};
 ghost use Rattle.columns.specs.Columns.{columnText, columnsText, columnRoom, room, bytesText, bytesLine, line1, line2, line3, lineWith, mostBytes, longestAnswer, Prints};
-use hexline::digits;
-use hexline::printing;
+use hex::digits;
+use hex::text;
 
 // The width of a column that is one character, and of a byte.
 pub const CHARACTER: usize = 0;
@@ -37,7 +37,7 @@ fn put_number(out: &mut [u8], at: usize, width: usize, value: u64)
     let mut i = width;
     while 0 < i {
         i -= 1;
-        printing::put_byte(out, at + i * digits::DIGITS, (rest % BYTE_VALUES) as u8);
+        text::put_byte(out, at + i * digits::DIGITS, (rest % BYTE_VALUES) as u8);
         rest = rest / BYTE_VALUES;
     }
 }
@@ -81,7 +81,7 @@ fn put_text(out: &mut [u8], at: usize, bytes: &[u8]) -> usize
     if bytes.len() == 0 {
         return put_column(out, at, CHARACTER, NO_BYTES);
     }
-    printing::put_at(bytes, out, at);
+    text::put_at(bytes, out, at);
     at + bytes.len() * digits::DIGITS
 }
 

@@ -8,9 +8,9 @@ use native.Mathlib.Omega.{arith}
 use lib.Dec.{ltb, leb, eqb}
 use lib.ListN.{length, take, drop}
 use borrow.Author.Tests.{ltb-false, leb-true}
-use Rattle.hexline.specs.Digit.{allDigits, worth}
-use Rattle.hexline.specs.Search.{upTo, foundAt}
-use Rattle.hexline.proofs.SearchLaws.{up-taken, found-within}
+use Rattle.hex.specs.Digit.{allDigits, worth}
+use Rattle.hex.specs.Search.{upTo, foundAt}
+use Rattle.hex.proofs.SearchLaws.{up-taken, found-within}
 use Rattle.fields.specs.Kind.{EXACTLY, BYTE, NUMBER-OR-DEFAULT, DELAY-OR-MEASURED, FLAG, LENGTH, BYTES}
 use Rattle.fields.specs.Field.{space, mostDigits, ruleOf, isMark, areDigits, noField, bytesField, numberField, ruledField, fieldOf, fieldAt}
 use Rattle.fields.specs.declared.field.Rule.{Rule}

@@ -9,8 +9,8 @@ use native.Mathlib.Omega.{arith}
 use lib.Dec.{eqb}
 use lib.ListN.{length, take, drop, getD, set, length-take, length-drop, drop-of-length-le}
 use lib.Seq.{drop-cons, drop-drop, getD-take}
-use Rattle.hexline.specs.Digit.{pairs}
-use Rattle.hexline.proofs.SearchLaws.{up-taken, found-within}
+use Rattle.hex.specs.Digit.{pairs}
+use Rattle.hex.proofs.SearchLaws.{up-taken, found-within}
 use Rattle.fields.specs.Kind.{END}
 use Rattle.fields.specs.Field.{fieldAt}
 use Rattle.fields.specs.Form.{mostFields, mostBytes, kindsOf, Held, nothingHeld, formWith, walk, formOf}

@@ -7,7 +7,7 @@ use native.Mathlib.Omega.{arith}
 use lib.ListN.{length, take, drop, getD, length-set, length-drop}
 use lib.Seq.{getD-set-same, getD-set-other, length-take-le}
 use borrow.Rule.Slice.PartMut.{same-len-mid}
-use Rattle.hexline.specs.Digit.{pairs}
+use Rattle.hex.specs.Digit.{pairs}
 use Rattle.fields.specs.Field.{ruleOf, fieldAt}
 use Rattle.fields.specs.Form.{mostBytes, kindsOf, Held, nothingHeld, walk, formOf}
 use Rattle.fields.specs.declared.Form.{Form}

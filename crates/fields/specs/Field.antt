@@ -4,8 +4,8 @@ use mathlib.Core.Bool.{Bool, true, false, cond}
 use mathlib.Core.List.{List, [], _∷_}
 use lib.ListN.{length, getD}
 use lib.Dec.{leb, ltb, eqb}
-use Rattle.hexline.specs.Digit.{allDigits, worth}
-use Rattle.hexline.specs.Search.{upTo}
+use Rattle.hex.specs.Digit.{allDigits, worth}
+use Rattle.hex.specs.Search.{upTo}
 use Rattle.fields.specs.Kind.{BYTE, NUMBER-OR-DEFAULT, DELAY-OR-MEASURED, FLAG, LENGTH, BYTES, EXACTLY}
 use Rattle.fields.specs.declared.field.Rule.{Rule}
 use Rattle.fields.specs.declared.field.Field.{Field}

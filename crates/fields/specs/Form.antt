@@ -4,8 +4,8 @@ use mathlib.Core.Bool.{Bool, false, cond}
 use mathlib.Core.List.{List, [], _∷_, _++_}
 use lib.ListN.{length, set, take, drop, replicate}
 use lib.Dec.{eqb}
-use Rattle.hexline.specs.Digit.{pairs}
-use Rattle.hexline.specs.Search.{upTo}
+use Rattle.hex.specs.Digit.{pairs}
+use Rattle.hex.specs.Search.{upTo}
 use Rattle.fields.specs.Kind.{END}
 use Rattle.fields.specs.Field.{fieldAt}
 use Rattle.fields.specs.declared.field.Field.{Field}

@@ -3,8 +3,8 @@ ghost use mathlib.Core.Path.{_≡_};
 ghost use lib.ListN.{drop};
 ghost use Rattle.fields.specs.Field.{numberRule, bytesRule, ruleOf, isMark, areDigits, noField, bytesField, fieldOf, fieldAt};
 use crate::kind;
-use hexline::digits;
-use hexline::searching;
+use hex::digits;
+use hex::search;
 
 const SPACE: u8 = b' ';
 
@@ -191,6 +191,6 @@ pub fn at(code: u8, text: &[u8], from: usize, room: usize) -> Field
         return none();
     }
     let start = from + 1;
-    let end = searching::found(text, start, SPACE);
+    let end = search::found(text, start, SPACE);
     of_kind(code, &text[start..end], room)
 }

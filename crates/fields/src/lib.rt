@@ -1,8 +1,8 @@
 // A line's fields, read by a row of their kinds.
 ghost use mathlib.Core.Path.{_≡_};
 ghost use Rattle.fields.specs.Form.{formOf};
-use hexline::digits;
-use hexline::searching;
+use hex::digits;
+use hex::search;
 
 pub mod field;
 pub mod kind;
@@ -30,7 +30,7 @@ pub fn read(row: [u8; 15], rest: &[u8]) -> Form
     let mut used: usize = 0;
     let mut at: usize = 0;
     let mut i: usize = 0;
-    let count = searching::found(&row[..FIELDS], 0, kind::END);
+    let count = search::found(&row[..FIELDS], 0, kind::END);
     while i < count {
         let next = field::at(row[i], rest, at, ROOM - used);
         if !next.good {

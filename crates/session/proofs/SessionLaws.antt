@@ -11,14 +11,14 @@ use lib.ListN.{length, take, drop, getD, set, drop-of-length-le, length-append, 
 use lib.Seq.{drop-drop, take-add, take-suc-set, append-snoc, drop-cons, take-all, take-at, take-take, take-append-le, length-take-le}
 use Rattle.refusals.specs.Refusals.{badLine as badNumber}
 use Rattle.bridge.specs.declared.Bridge.{Bridge}
-use Rattle.hexline.specs.Search.{upTo, foundAt}
+use Rattle.hex.specs.Search.{upTo, foundAt}
 use Rattle.answer.specs.Answer.{Answer, badLine}
 use Rattle.capture.specs.Capture.{listedAs}
 use Rattle.command.specs.Answer.{longestLine}
 use Rattle.session.specs.Session.{newline, keptBytes, part, answerBy, Fed, left, saying, ended, fedOf, keptOf}
 use Rattle.session.specs.declared.Program.{Program}
 use Rattle.session.specs.declared.Program.the-variants.{Listing, Replay}
-use Rattle.hexline.proofs.SearchLaws.{up-taken}
+use Rattle.hex.proofs.SearchLaws.{up-taken}
 use Rattle.capture.proofs.CaptureLaws.{listed-long}
 use Rattle.command.proofs.AnswerLaws.{answer-long}
 

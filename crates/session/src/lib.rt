@@ -9,8 +9,8 @@ ghost use Rattle.answer.specs.Answer.{Says};
 ghost use Rattle.session.specs.Session.{keptBytes, answerBy, startBy, part, ended, saying, fedOf, keptOf, lineOf, Ready, Within, Turned};
 use answer::Answered;
 use bridge::Bridge;
-use hexline::searching;
 use columns::LONGEST_ANSWER;
+use hex::search;
 
 // What answers the lines.
 pub enum Program {
@@ -116,13 +116,13 @@ fn whole_lines(
     let mut next = b;
     let mut n = filled;
     let mut start = from;
-    let mut end = searching::found(bytes, start, NEWLINE);
+    let mut end = search::found(bytes, start, NEWLINE);
     while end < bytes.len() && LONGEST_ANSWER <= out.len() - n {
         let said = answer_line(program, next, &bytes[start..end], &mut out[n..]);
         next = said.next;
         n += said.len;
         start = end + 1;
-        end = searching::found(bytes, start, NEWLINE);
+        end = search::found(bytes, start, NEWLINE);
     }
     Lines {
         next: next,
@@ -139,7 +139,7 @@ pub fn turn(program: Program, s: Session, bytes: &[u8], from: usize, out: &mut [
 {
     let b = s.bridge;
     let mut text = s.text;
-    let end = searching::found(bytes, from, NEWLINE);
+    let end = search::found(bytes, from, NEWLINE);
     let len = kept(&mut text, s.len, &bytes[from..end]);
     if end == bytes.len() {
         let session = Session {

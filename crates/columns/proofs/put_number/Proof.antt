@@ -5,7 +5,7 @@ use Prim.Native.Nat.{ℕ, _+_, _*_, _≤_}
 use native.Mathlib.Omega.{arith}
 use lib.ListN.{length, take, drop, take-append-drop}
 use Rattle.numbers.specs.Digits.{digits}
-use Rattle.hexline.specs.Print.{textOf}
+use Rattle.hex.specs.Print.{textOf}
 use Rattle.columns.proofs.ColumnLaws.{number-step}
 use borrow.Author.Needs.{needs}
 use Rattle.columns.proofs.put_number.Statement.{statement}

@@ -2,7 +2,7 @@
 use mathlib.Core.Path.{ap}
 use native.Mathlib.Omega.{arith}
 use lib.ListN.{length}
-use Rattle.hexline.proofs.PrintLaws.{length-text}
+use Rattle.hex.proofs.PrintLaws.{length-text}
 use Rattle.columns.specs.Columns.{columnText}
 use Rattle.columns.proofs.ColumnLaws.{bytes-none, bytes-some}
 use borrow.Author.Needs.{needs}

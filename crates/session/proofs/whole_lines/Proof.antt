@@ -8,10 +8,10 @@ use borrow.Author.Tests.{leb-true}
 use borrow.Rule.Slice.PartMut.{same-len-mid}
 use lib.ListN.{length, take, drop, length-take, length-drop}
 use Rattle.bridge.specs.State.{Lawful}
-use Rattle.hexline.specs.Search.{foundAt}
+use Rattle.hex.specs.Search.{foundAt}
 use Rattle.columns.specs.Columns.{longestAnswer}
 use Rattle.session.specs.Session.{newline, part, saying, ended, fedOf, Within}
-use Rattle.hexline.proofs.SearchLaws.{found-within}
+use Rattle.hex.proofs.SearchLaws.{found-within}
 use Rattle.session.proofs.SessionLaws.{lines-none, lines-on, printed}
 use Rattle.session.proofs.whole_lines.Statement.{statement}
 use Rattle.session.proofs.whole_lines.Tie as tie

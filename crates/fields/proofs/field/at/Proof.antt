@@ -5,7 +5,7 @@ use lib.ListN.{drop-of-length-le}
 use lib.Seq.{drop-cons}
 use borrow.Author.Tests.{eq-eqb, ne-eqb}
 use borrow.Author.Needs.{needs}
-use Rattle.hexline.proofs.SearchLaws.{found-within}
+use Rattle.hex.proofs.SearchLaws.{found-within}
 use Rattle.fields.specs.Field.{space, fieldAt}
 use Rattle.fields.proofs.FieldLaws.{field-taken}
 use Rattle.fields.proofs.field.at.Statement.{statement}
