@@ -7,6 +7,9 @@ ghost use Rattle.answer.specs.Answer.{badLine, doneSays, Says};
 use bridge::Bridge;
 use bridge::Done;
 
+// The longest line that is printed.
+pub const LONGEST_ANSWER: usize = 260;
+
 // The state after a line, and the length of what is printed for it.
 pub struct Answered {
     pub next: Bridge,
