@@ -75,7 +75,7 @@ driftText (PartsPerMillion x) = lineWith (driftNo (PartsPerMillion x)) (digits 8
 abbrev pub fieldWidths : List ℕ
 fieldWidths = 1 ∷ 0 ∷ 1 ∷ 1 ∷ 1 ∷ 1 ∷ 1 ∷ 1 ∷ 0 ∷ 1 ∷ 1 ∷ 2 ∷ 1 ∷ 8 ∷ 0 ∷ 1 ∷ 0 ∷ 1 ∷ 0 ∷ 5 ∷ 5 ∷ 0 ∷ 6 ∷ 0 ∷ 6 ∷ 0 ∷ 6 ∷ 0 ∷ 4 ∷ 0 ∷ []
 
-unfoldable pub fieldValues : Fields → List ℕ
+abbrev pub fieldValues : Fields → List ℕ
 fieldValues f =
     let m = f .sa in
     let p = f .precedence in

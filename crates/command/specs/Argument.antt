@@ -2,10 +2,9 @@
 use Prim.Native.Nat.{ℕ, _%_, min}
 use mathlib.Core.Bool.{Bool, false, cond}
 use mathlib.Core.List.{List, [], _∷_}
-use lib.ListN.{getD, take, drop, replicate}
+use lib.ListN.{getD, take, replicate}
 use lib.Dec.{eqb}
 use Rattle.numbers.specs.Digits.{numberAt}
-use Rattle.delay.specs.declared.DelaySetting.{DelaySetting}
 use Rattle.delay.specs.declared.DelaySetting.the-variants.{Measured, Fixed}
 use Rattle.times.specs.declared.ErrorTime.{ErrorTime}
 use Rattle.choice.specs.declared.Precedence.{Precedence}
@@ -19,6 +18,9 @@ use Rattle.fields.specs.declared.Form.{Form}
 
 -- ---- numbers
 
+abbrev pub byteValues : ℕ
+byteValues = 256
+
 abbrev pub numberIn : Form → ℕ → ℕ
 numberIn f i = getD (f .numbers) i 0
 
@@ -27,7 +29,7 @@ markedIn f i = getD (f .marked) i false
 
 -- a byte, and a length or a count of bytes: by its kind the number is below 256, or at most 128, and so is what is said here of it
 abbrev pub byteIn : Form → ℕ → ℕ
-byteIn f i = numberIn f i % 256
+byteIn f i = numberIn f i % byteValues
 
 abbrev pub sizeIn : Form → ℕ → ℕ
 sizeIn f i = min (numberIn f i) mostLength

@@ -5,6 +5,7 @@ use mathlib.Core.List.{List, [], _∷_, _++_}
 use lib.ListN.{take, replicate}
 use lib.Dec.{eqb}
 use Rattle.fields.specs.Kind.{END, BYTE, NUMBER, NUMBER-OR-DEFAULT, DELAY-OR-MEASURED, FLAG, LENGTH, BYTES, EXACTLY}
+use Rattle.fields.specs.Form.{mostFields}
 
 -- the letters, in ASCII
 abbrev pub letterS : ℕ
@@ -52,11 +53,15 @@ ERROR = EXACTLY + 4
 
 -- ---- rows
 
--- the kinds, and END up to 15 of them
-abbrev pub row : List ℕ → List ℕ
-row kinds = take 15 (kinds ++ replicate 15 END)
+-- a row's places, one more than it has fields
+abbrev pub places : ℕ
+places = mostFields + 1
 
--- the row of each letter; nothing follows a letter that no call has
+-- the kinds, and END in the places after them
+abbrev pub row : List ℕ → List ℕ
+row kinds = take places (kinds ++ replicate places END)
+
+-- the row of each letter; nothing follows C, or a letter that no call has
 unfoldable pub rowOf : ℕ → List ℕ
 rowOf letter =
     cond (eqb letter letterS) (row (BYTE ∷ ADDRESS ∷ PRECEDENCE ∷ FLAG ∷ NUMBER-OR-DEFAULT ∷ NUMBER-OR-DEFAULT ∷ replicate 8 DELAY-OR-MEASURED))

@@ -13,7 +13,7 @@ ghost use Rattle.bridge.specs.Drift.{driftAt};
 ghost use Rattle.fields.specs.Field.{mostLength};
 ghost use Rattle.fields.specs.Form.{mostBytes};
 ghost use Rattle.columns.specs.Columns.{longestAnswer, lineWith, Prints};
-ghost use Rattle.command.specs.Argument.{numberIn, byteIn, sizeIn, fieldsIn, untouched};
+ghost use Rattle.command.specs.Argument.{byteIn, sizeIn, fieldsIn, untouched};
 ghost use Rattle.command.specs.Answer.{chosenText, IsNumber, driftText, fieldValues, readText, writeText, betterText};
 use crate::arguments;
 use crate::changes;

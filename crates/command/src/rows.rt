@@ -45,7 +45,7 @@ fn short(a: u8, b: u8, c: u8, d: u8) -> [u8; 15]
     ]
 }
 
-// The row of a letter; nothing follows a letter that no call has.
+// The row of a letter; nothing follows C, or a letter that no call has.
 pub fn row(letter: u8) -> [u8; 15]
     ensures { λ r. ⌜ r ≡ rowOf letter ⌝ }
 {

@@ -3,13 +3,6 @@ use borrow.Author.Needs.{needs}
 use Rattle.command.proofs.changes.own_clock.Statement.{statement}
 use Rattle.command.proofs.changes.own_clock.Tie as tie
 
-returns : tie.Need-returns
-returns c =
-    let d = c .before .before in
-    let o = d .before .before in
-    let b = o .before .before .before .before in
-    rw (← b .byte .ensures, ← o .own-clock .ensures .0) (d .done .ensures)
-
 pub own-clock-spec : {M : Type 1} → statement M
 own-clock-spec =
     tie.close
@@ -21,4 +14,4 @@ own-clock-spec =
     (λ c κs. search needs)
     (λ c κs. search needs)
     (λ c. search needs)
-    returns)
+    (λ c. rw (← c .before .before .before .before .before .before .before .before .byte .ensures, ← c .before .before .before .before .own-clock .ensures .0) (c .before .before .done .ensures)))

@@ -15,10 +15,7 @@ rate-spec =
     (λ c. search needs)
     (λ c κs. search needs)
     (λ c. search needs)
-    (λ c κs.
-    let d = c .before .before in
-    let s = d .before .before .before in
-    (subst IsNumber (d .drift .given .1) (s .pre .0), s .pre .1))
+    (λ c κs. (subst IsNumber (c .before .before .drift .given .1) (c .before .before .before .before .before .pre .0), c .before .before .before .before .before .pre .1))
     (λ c. search needs)
     (λ c. as-prints (ap driftText (sym (c .before .before .before .before .enum-told .given .1))) (c .before .before .one .ensures))
     (λ c. search needs)

@@ -6,13 +6,6 @@ use borrow.Author.Needs.{needs}
 use Rattle.command.proofs.questions.read.Statement.{statement}
 use Rattle.command.proofs.questions.read.Tie as tie
 
-returns : tie.Need-returns
-returns c =
-    let r = c .before .before in
-    let a = r .before .before in
-    let s = a .before .before .before in
-    rw (← s .size .ensures, ← a .read .ensures) (r .reading .ensures)
-
 pub read-spec : {M : Type 1} → statement M
 read-spec =
     tie.close
@@ -23,4 +16,4 @@ read-spec =
     (λ c κs. search needs)
     (λ c κs. search needs)
     (λ c. search needs)
-    returns)
+    (λ c. rw (← c .before .before .before .before .before .before .before .size .ensures, ← c .before .before .before .before .read .ensures) (c .before .before .reading .ensures)))

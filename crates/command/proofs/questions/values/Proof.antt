@@ -1,12 +1,10 @@
 -- Each field widens to the value of its column.
 use native.Mathlib.Omega.{arith}
-use Rattle.command.specs.Answer.{fieldValues}
 use borrow.Author.Needs.{needs}
 use Rattle.command.proofs.questions.values.Statement.{statement}
 use Rattle.command.proofs.questions.values.Tie as tie
 
 pub values-spec : {M : Type 1} → statement M
-unfolding fieldValues
 values-spec =
     tie.close
     (tie.spec
