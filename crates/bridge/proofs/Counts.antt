@@ -27,6 +27,7 @@ use Rattle.bridge.specs.Own.{ownClockOf}
 use Rattle.bridge.specs.Receive.{readBy, receiveFieldsOf, receiveOf}
 use Rattle.bridge.specs.Age.{ageOf}
 use Rattle.bridge.specs.Send.{sendOf, sendBytes}
+use Rattle.bridge.specs.Demands.{Call, links, own-clock, receive, age, send, after, run, usedBy, used}
 use Rattle.bridge.specs.declared.Bridge.{Bridge}
 use Rattle.bridge.specs.declared.Done.{Done}
 use Rattle.bridge.specs.declared.Linked.{Linked}
@@ -35,40 +36,6 @@ use Rattle.port.proofs.PortLaws.{received-count, aged-count}
 use Rattle.table.proofs.Walk.{each-at, each-length}
 use Rattle.bridge.proofs.StateLaws.{if-both}
 use Rattle.bridge.proofs.Line.{sent-frame-count}
-
--- ---- calls in a row
-
--- a call that may change the state, with its arguments; a send's output by its length
-pub data Call : Type 0 where
-  links : ℕ → Call
-  own-clock : ℕ → ℕ → ℕ → ℕ → Call
-  receive : ℕ → List ℕ → ℕ → Call
-  age : ℕ → Call
-  send : ℕ → ℕ → ℕ → Call
-
-abbrev pub after : Bridge → Call → Bridge
-after b (links mask) = linksOf b mask .next
-after b (own-clock count seconds fraction at) = ownClockOf b count seconds fraction at .next
-after b (receive port frame arrival) = receiveOf b port frame arrival .next
-after b (age at) = ageOf b at .next
-after b (send port t room) = sendOf b port t room .next
-
-unfoldable pub run : Bridge → List Call → Bridge
-run b [] = b
-run b (c ∷ cs) = run (after b c) cs
-
--- how many sends of the port at index i used a frameCount since its link came up: none once its link goes down, one more with
--- each send that is refused by its number alone no more
-abbrev pub usedBy : ℕ → Bridge → Call → ℕ → ℕ
-usedBy i b (links mask) n = cond (maskBeyond (b .setup .n) mask) n (cond (eqb (bit (b .links) i) 1 && eqb (bit mask i) 0) 0 n)
-usedBy i b (own-clock count seconds fraction at) n = n
-usedBy i b (receive port frame arrival) n = n
-usedBy i b (age at) n = n
-usedBy i b (send port t room) n = cond (eqb (sendRefusal (b .setup .n) (b .links) port t room) 0) (cond (eqb (port - 1) i) (n + 1) n) n
-
-unfoldable pub used : ℕ → Bridge → List Call → ℕ → ℕ
-used i b [] n = n
-used i b (c ∷ cs) n = used i (after b c) cs (usedBy i b c n)
 
 -- ---- what each call leaves of the next frameCounts
 

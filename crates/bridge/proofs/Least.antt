@@ -2,7 +2,6 @@
 use mathlib.Core.Path.{_≡_, refl, sym, _∙_, subst}
 use mathlib.Core.List.{List, [], _∷_, List·Memᴰ, List·Memᴰ·head, List·Memᴰ·tail, List·Memᴰ·cases-cons, List·Memᴰ·not-nil}
 use mathlib.Core.Logic.{_⊎_, inl, inr, ⊎-elim}
-use Prim.Native.Nat.{_≤_}
 use native.Mathlib.Nat.{le-trans, le-refl, le-of-lt}
 use borrow.Author.Tests.{ltb-true, ltb-false}
 use lib.Dec.{ltb}
@@ -11,18 +10,9 @@ use Rattle.choice.specs.declared.Candidate.{Candidate}
 use Rattle.choice.specs.declared.Candidate.the-variants.{Nothing, Clock}
 use Rattle.table.specs.Table.{candidatesFrom, bestOf}
 use Rattle.bridge.specs.Chosen.{chosenOf}
+use Rattle.bridge.specs.Demands.{candidates, NoWorse}
 use Rattle.bridge.specs.declared.Bridge.{Bridge}
 use Rattle.numbers.proofs.Branches.{if-when}
-
--- own clock first, then the ports
-abbrev pub candidates : Bridge → List Candidate
-candidates b = ownCandidate (b .setup .capable) (b .setup .own) ∷ candidatesFrom 1 (b .ports)
-
--- x is no worse than y: y is no candidate, or both are and x has no greater rank
-abbrev pub NoWorse : Candidate → Candidate → Type 0
-NoWorse x Nothing = Unit {0}
-NoWorse Nothing (Clock q k j) = ⊥
-NoWorse (Clock p h i) (Clock q k j) = rankOf p h i ≤ rankOf q k j
 
 -- ---- the better of two
 

@@ -5,3 +5,4 @@ pub mod Line
 pub mod Least
 pub mod Counts
 pub mod Unique
+pub mod Exact

@@ -9,9 +9,6 @@ use lib.IntN.{pos}
 use lib.ListN.{length, drop}
 use Rattle.numbers.specs.Digits.{numberAt}
 use Rattle.times.specs.Times.{sinceOf, units}
-use Rattle.samples.specs.Keep.{endsOf}
-use Rattle.samples.specs.declared.Sample.{Sample}
-use Rattle.samples.specs.declared.Ends.the-variants.{Both}
 use Rattle.line.specs.Sent.{reachOf}
 use Rattle.line.specs.Line.{NearLine}
 use Rattle.frame.specs.Frame.{frameLength}
@@ -25,6 +22,7 @@ use Rattle.table.specs.Arguments.{sendRefusal}
 use Rattle.bridge.specs.State.{Lawful}
 use Rattle.bridge.specs.Chosen.{chosenOf}
 use Rattle.bridge.specs.Send.{chosenSamples, sendingAt, sendOf, sendBytes}
+use Rattle.bridge.specs.Demands.{grandStart, grandBytes, OnLine}
 use Rattle.bridge.specs.declared.Bridge.{Bridge}
 use Rattle.bridge.specs.declared.Done.{Done}
 use Rattle.line.proofs.SentLaws.{sent-near}
@@ -34,22 +32,8 @@ use Rattle.table.proofs.CheckLaws.{Ready, send-ready}
 use Rattle.table.proofs.TableLaws.{chosen-lawful}
 use Rattle.bridge.proofs.StateLaws.{if-both}
 
--- grandTime stands in these bytes of a frame
-abbrev pub grandStart : ℕ
-grandStart = 32
-
-abbrev pub grandBytes : ℕ
-grandBytes = 10
-
--- the oldest and the newest kept sample of the chosen clock, and that the grand time in these bytes lies near the line through them
-pub record OnLine (b : Bridge) (t : ℕ) (bytes : List ℕ) : Type 0 where
-  pub older : Sample
-  pub newer : Sample
-  pub kept : endsOf (chosenSamples b) ≡ Both older newer
-  pub near : NearLine older newer (pos (numberAt bytes grandStart grandBytes)) (reachOf (sinceOf (record { 0 = t }) (newer .local)) (b .setup .back)) (b .setup .back)
-
 -- what a send that answers 0 left in the output: a frame, with the port's next frameCount
-pub record Wrote (b : Bridge) (port t : ℕ) (out left : List ℕ) : Type 0 where
+record Wrote (b : Bridge) (port t : ℕ) (out left : List ℕ) : Type 0 where
   pub fields : Fields
   pub ready : Ready (b .setup .n) port t × (frameLength ≤ length out)
   pub sending : sendingAt b (port - 1) (record { 0 = t }) ≡ Frame fields
@@ -57,7 +41,7 @@ pub record Wrote (b : Bridge) (port t : ℕ) (out left : List ℕ) : Type 0 wher
   pub count : fields .count ≡ portAt (b .ports) (port - 1) .count
   pub read : ReadOff (chosenSamples b) (record { 0 = t }) (b .setup .back) fields
 
-pub wrote : (b : Bridge) (port t : ℕ) (out : List ℕ) → sendOf b port t (length out) .answer ≡ 0 → Wrote b port t out (sendBytes b port t out)
+wrote : (b : Bridge) (port t : ℕ) (out : List ℕ) → sendOf b port t (length out) .answer ≡ 0 → Wrote b port t out (sendBytes b port t out)
 unfolding sendOf sendBytes sendingAt
 wrote b port t out =
     if-both (λ (d : Done) (left : List ℕ). d .answer ≡ 0 → Wrote b port t out left) (eqb (sendRefusal (b .setup .n) (b .links) port t (length out)) 0)
@@ -92,12 +76,12 @@ sent-frame-near b port t out h e =
     }
 
 -- a frame that was sent is one that Write takes
-pub sent-frame-written : (b : Bridge) (port t : ℕ) (out : List ℕ) → Lawful b → (e : sendOf b port t (length out) .answer ≡ 0)
-    → writeRefusal (wrote b port t out e .fields) (length out) ≡ 0
+pub sent-frame-written : (b : Bridge) (port t : ℕ) (out : List ℕ) (f : Fields) → Lawful b → sendOf b port t (length out) .answer ≡ 0
+    → sendingAt b (port - 1) (record { 0 = t }) ≡ Frame f → writeRefusal f (length out) ≡ 0
 unfolding sendingAt
-sent-frame-written b port t out h e =
-    let w = wrote b port t out e in
-    sending-written _ _ _ _ (record { 0 = t }) (portAt (b .ports) (port - 1)) (length out) (w .fields) (w .ready .0 .time) (h .ports-lawful (port - 1)) (w .ready .1) (w .sending)
+sent-frame-written b port t out f h e s =
+    let r = wrote b port t out e .ready in
+    sending-written _ _ _ _ (record { 0 = t }) (portAt (b .ports) (port - 1)) (length out) f (r .0 .time) (h .ports-lawful (port - 1)) (r .1) s
 
 -- byte 30 of a frame that was sent is the port's next frameCount
 pub sent-frame-count : (b : Bridge) (port t : ℕ) (out : List ℕ) → portAt (b .ports) (port - 1) .count < 256 → sendOf b port t (length out) .answer ≡ 0

@@ -1,118 +1,105 @@
--- Demand 1: what a refused call changes, call by call, is what document 01 names and nothing else.
-use mathlib.Core.Path.{_≡_, refl, ap, _∙_}
-use mathlib.Core.Bool.{Bool, true, false}
+-- Demand 1: each call answers with a number that document 01 lists for it, and a refusal changes what the document names and nothing else.
+use mathlib.Core.Path.{_≡_, refl, subst}
 use mathlib.Core.List.{List}
-use Prim.Native.Nat.{ℕ, _-_, _≤_}
+use mathlib.Core.Logic.{_⊎_, inl, inr, ⊎-elim}
+use Prim.Native.Nat.{ℕ, zero, suc, _-_}
 use native.Mathlib.Omega.{arith}
 use lib.Dec.{eqb, leb, ltb}
 use lib.ListN.{length}
-use Rattle.times.specs.Times.{circle, second}
-use Rattle.frame.specs.Read.{unless, readOf}
+use Rattle.times.specs.Times.{circle}
+use Rattle.samples.specs.Keep.{endsOf}
+use Rattle.samples.specs.declared.Ends.{Ends}
+use Rattle.samples.specs.declared.Ends.the-variants.{Few, Both}
+use Rattle.line.specs.Drift.{driftThrough, driftOf}
+use Rattle.frame.specs.Read.{rowsOf, readRefusal, readAs, readOf}
+use Rattle.frame.specs.Write.{writeRefusal, writtenAs, writtenOf}
 use Rattle.frame.specs.declared.Fields.{Fields}
 use Rattle.frame.specs.declared.Reading.{Reading}
 use Rattle.frame.specs.declared.Reading.the-variants as Readings
-use Rattle.port.specs.Record.{usedPort}
-use Rattle.port.specs.Receive.{notedPort}
-use Rattle.port.specs.Send.{sendingNo, sendingBytes}
-use Rattle.port.specs.declared.Preceding.the-variants.{Was}
+use Rattle.port.specs.Send.{sendingDone, sendingBytes}
+use Rattle.port.specs.declared.PortDone.{PortDone}
+use Rattle.port.specs.declared.ClockDone.{ClockDone}
 use Rattle.port.specs.declared.Sending.{Sending}
-use Rattle.table.specs.Table.{portAt}
+use Rattle.table.specs.Table.{portAt, samplesAt}
 use Rattle.table.specs.Arguments.{portRefusal, sendRefusal, ownClockRefusal, maskBeyond}
 use Rattle.table.specs.Fits.{setupFits}
 use Rattle.table.specs.declared.Setup.{Setup}
-use Rattle.bridge.specs.State.{withPort, withClock}
-use Rattle.bridge.specs.Setup.{noBridge, setupOf}
+use Rattle.bridge.specs.State.{answers, storesPort, storesClock}
+use Rattle.bridge.specs.Setup.{setupOf}
 use Rattle.bridge.specs.Links.{linksOf}
 use Rattle.bridge.specs.Own.{ownClockOf}
-use Rattle.bridge.specs.Receive.{readBy, receiveFieldsOf, receiveOf}
+use Rattle.bridge.specs.Receive.{delayAt, readBy, receiveFieldsOf, receiveOf}
 use Rattle.bridge.specs.Age.{ageOf}
-use Rattle.bridge.specs.Send.{sendingAt, sendOf, sendBytes}
+use Rattle.bridge.specs.Chosen.{chosenOf}
+use Rattle.bridge.specs.Send.{chosenSamples, sendingAt, sendOf, sendBytes}
+use Rattle.bridge.specs.Drift.{driftAt}
+use Rattle.bridge.specs.Demands.{From, ReadAnswers, WriteAnswers, SetupAnswers, LinksAnswers, AgeAnswers, OwnAnswers, ReceiveAnswers, SendAnswers, DriftAnswers}
 use Rattle.bridge.specs.declared.Bridge.{Bridge}
-use Rattle.bridge.specs.declared.Done.{Done}
-use Rattle.bridge.specs.declared.Linked.{Linked}
-use Rattle.bridge.specs.declared.LinkCount.the-variants.{Refused}
 use Rattle.numbers.proofs.Branches.{if-when}
-use Rattle.port.proofs.PortLaws.{received-refused, own-reading-refused, NoFrame, sending-refused}
-use Rattle.table.proofs.CheckLaws.{port-most, send-most}
+use Rattle.frame.proofs.FrameLaws.{read-is, write-is}
+use Rattle.port.proofs.PortLaws.{received-is, own-reading-is, sending-is}
+use Rattle.table.proofs.CheckLaws.{port-is, send-is, own-is}
 use Rattle.bridge.proofs.StateLaws.{if-both}
 
--- setup, 1: what stands for no state
-pub setup-none : (s : Setup) → (setupOf s .answer ≡ 0 → ⊥) → setupOf s .next ≡ noBridge
+pub read-answers : (s : List ℕ) → ReadAnswers (readOf s)
+unfolding readOf
+read-answers s = by (readRefusal s) (read-is (λ (k : ℕ). (k ≡ 0) ⊎ From 4 6 k) s (inr (omega arith, omega arith)) (inr (omega arith, omega arith)) (inr (omega arith, omega arith)) (inl refl))
+  where
+    by : (k : ℕ) → (k ≡ 0) ⊎ From 4 6 k → ReadAnswers (readAs k (rowsOf s))
+    by zero h = h
+    by (suc k) h = h
+
+pub write-answers : (f : Fields) (out : List ℕ) → WriteAnswers out (writeRefusal f (length out)) (writtenOf f out)
+unfolding writtenOf
+write-answers f out = write-is (λ (k : ℕ). WriteAnswers out k (writtenAs k f out)) f (length out) (inr (inl refl, refl)) (inr (inr refl, refl)) (inl refl)
+
+pub setup-answers : (s : Setup) → SetupAnswers (setupOf s)
 unfolding setupOf
-setup-none s = if-when (λ (d : Done). (d .answer ≡ 0 → ⊥) → d .next ≡ noBridge) (setupFits s) (λ _ z. absurd (z refl)) (λ _ _. refl)
+setup-answers s = if-when SetupAnswers (setupFits s) (λ _. inl refl) (λ _. inr (refl, refl))
 
--- links, 2: nothing
-pub links-keeps : (b : Bridge) (mask : ℕ) → linksOf b mask .answer ≡ Refused → linksOf b mask .next ≡ b
+pub links-answers : (b : Bridge) (mask : ℕ) → LinksAnswers b (linksOf b mask)
 unfolding linksOf
-links-keeps b mask =
-    if-when (λ (d : Linked). d .answer ≡ Refused → d .next ≡ b) (maskBeyond (b .setup .n) mask) (λ _ _. refl)
-    (λ _ e. let z : _≡_ {A = ℕ} 0 1 = cc in absurd (omega arith))
+links-answers b mask = if-when (LinksAnswers b) (maskBeyond (b .setup .n) mask) (λ _. inr (refl, refl)) (λ _. inl refl)
 
--- age, 2: nothing
-pub age-keeps : (b : Bridge) (at : ℕ) → (ageOf b at .answer ≡ 0 → ⊥) → ageOf b at .next ≡ b
+pub age-answers : (b : Bridge) (at : ℕ) → AgeAnswers b (ageOf b at)
 unfolding ageOf
-age-keeps b at = if-when (λ (d : Done). (d .answer ≡ 0 → ⊥) → d .next ≡ b) (leb circle at) (λ _ _. refl) (λ _ z. absurd (z refl))
+age-answers b at = if-when (AgeAnswers b) (leb circle at) (λ _. inr (refl, refl)) (λ _. inl refl)
 
--- own clock, 2 and 10: nothing; 8: frameCount and now
-pub record OwnKeeps (b : Bridge) (count at : ℕ) (d : Done) : Type 0 where
-  pub early : (d .answer ≡ 0 → ⊥) → (d .answer ≡ 8 → ⊥) → d .next ≡ b
-  pub late : d .answer ≡ 8 → d .next ≡ withClock b (record { preceding = Was count (record { 0 = at }); samples = b .clock .samples })
-
--- the tests over numbers alone never give 8
-own-number : (capable : Bool) (seconds fraction at : ℕ) → ownClockRefusal capable seconds fraction at ≡ 8 → ⊥
-unfolding ownClockRefusal
-own-number capable seconds fraction at = by (ltb seconds second) (ltb fraction second) (ltb at circle) capable
-  where
-    by : (a b c d : Bool) → unless a 2 (unless b 2 (unless c 2 (unless d 10 0))) ≡ 8 → ⊥
-    by false b c d e = omega arith
-    by true false c d e = omega arith
-    by true true false d e = omega arith
-    by true true true false e = omega arith
-    by true true true true e = omega arith
-
-pub own-keeps : (b : Bridge) (count seconds fraction at : ℕ) → OwnKeeps b count at (ownClockOf b count seconds fraction at)
+pub own-answers : (b : Bridge) (count seconds fraction at : ℕ) → OwnAnswers b count at (ownClockOf b count seconds fraction at)
 unfolding ownClockOf
-own-keeps b count seconds fraction at =
-    if-when (OwnKeeps b count at) (eqb (ownClockRefusal (b .setup .capable) seconds fraction at) 0)
-    (λ _.
-    let t = own-reading-refused count (record { 0 = seconds; 1 = fraction }) (record { 0 = at }) (b .clock) in
-    record { early = λ z n. absurd (n (t z .number)); late = λ e. ap (withClock b) (t (λ z. omega arith) .stored) })
-    (λ _. record { early = λ _ _. refl; late = λ e. absurd (own-number (b .setup .capable) seconds fraction at e) })
+own-answers b count seconds fraction at =
+    if-when (OwnAnswers b count at) (eqb (ownClockRefusal (b .setup .capable) seconds fraction at) 0)
+    (λ _. own-reading-is count _ (record { 0 = at }) (b .clock) (λ (d : ClockDone). OwnAnswers b count at (storesClock b d)) (inr (inr (refl, refl))) (λ _. inl refl))
+    (λ _. own-is (λ (k : ℕ). OwnAnswers b count at (answers k b)) (b .setup .capable) seconds fraction at (inr (inl (inl refl, refl))) (inr (inl (inr refl, refl))) (inl refl))
 
--- receive, 2 to 6: nothing; 7 to 9: frameCount and arrival, as the next p and not as heard-at
-pub record ReceiveKeeps (b : Bridge) (port : ℕ) (frame : List ℕ) (arrival : ℕ) (d : Done) : Type 0 where
-  pub early : (d .answer ≡ 0 → ⊥) → d .answer ≤ 6 → d .next ≡ b
-  pub late : (f : Fields) → readOf frame ≡ Readings.Frame f → 7 ≤ d .answer
-      → d .next ≡ withPort b (port - 1) (notedPort (f .count) (record { 0 = arrival }) (portAt (b .ports) (port - 1)))
-
-pub receive-keeps : (b : Bridge) (port : ℕ) (frame : List ℕ) (arrival : ℕ) → ReceiveKeeps b port frame arrival (receiveOf b port frame arrival)
+pub receive-answers : (b : Bridge) (port : ℕ) (frame : List ℕ) (arrival : ℕ) → ReceiveAnswers b port frame arrival (receiveOf b port frame arrival)
 unfolding receiveOf receiveFieldsOf
-receive-keeps b port frame arrival =
-    if-when (ReceiveKeeps b port frame arrival) (eqb (portRefusal (b .setup .n) (b .links) port arrival) 0)
+receive-answers b port frame arrival =
+    if-when (ReceiveAnswers b port frame arrival) (eqb (portRefusal (b .setup .n) (b .links) port arrival) 0)
     (λ _. by (readOf frame) refl)
-    (λ _. record { early = λ _ _. refl; late = λ f e l. absurd (omega (arith, port-most (b .setup .n) (b .links) port arrival)) })
+    (λ _. port-is (λ (k : ℕ). ReceiveAnswers b port frame arrival (answers k b)) (b .setup .n) (b .links) port arrival (inr (inl ((omega arith, omega arith), refl))) (inr (inl ((omega arith, omega arith), refl))) (inl refl))
   where
-    by : (r : Reading) → readOf frame ≡ r → ReceiveKeeps b port frame arrival (readBy b (port - 1) r (record { 0 = arrival }))
-    by (Readings.Refused k) q = record { early = λ _ _. refl; late = λ f e l. let z : _≡_ {A = ℕ} 0 1 = cc in absurd (omega arith) }
-    by (Readings.Frame g) q =
-        let n = received-refused _ _ g (record { 0 = arrival }) (portAt (b .ports) (port - 1)) in
-        record {
-          early = λ z l. let m = n z in absurd (omega (arith, m .least));
-          late = λ f e l. let same : g ≡ f = cc in ap (withPort b (port - 1)) (n (λ z. omega arith) .stored ∙ ap (λ (x : Fields). notedPort (x .count) (record { 0 = arrival }) (portAt (b .ports) (port - 1))) same);
-        }
+    by : (r : Reading) → readOf frame ≡ r → ReceiveAnswers b port frame arrival (readBy b (port - 1) r (record { 0 = arrival }))
+    by (Readings.Refused k) q = ⊎-elim inl (λ h. inr (inl ((omega (arith, h .0), omega (arith, h .1)), refl))) (subst ReadAnswers q (read-answers frame))
+    by (Readings.Frame f) q =
+        received-is (delayAt b (port - 1)) _ f (record { 0 = arrival }) (portAt (b .ports) (port - 1)) (λ (d : PortDone). ReceiveAnswers b port frame arrival (storesPort b (port - 1) d))
+        (λ k l g. inr (inr ((l, g), (f, q, refl))))
+        (λ _ _ _ _. inl refl)
 
--- send, 2 to 4: nothing; 10 to 13: the port's next frameCount; and no refusal touches the output
-pub record SendKeeps (b : Bridge) (port t : ℕ) (out : List ℕ) (d : Done) (left : List ℕ) : Type 0 where
-  pub early : (d .answer ≡ 0 → ⊥) → d .answer ≤ 4 → d .next ≡ b
-  pub late : 5 ≤ d .answer → d .next ≡ withPort b (port - 1) (usedPort (portAt (b .ports) (port - 1)))
-  pub output : (d .answer ≡ 0 → ⊥) → left ≡ out
-
-pub send-keeps : (b : Bridge) (port t : ℕ) (out : List ℕ) → SendKeeps b port t out (sendOf b port t (length out)) (sendBytes b port t out)
+pub send-answers : (b : Bridge) (port t : ℕ) (out : List ℕ) → SendAnswers b port out (sendOf b port t (length out)) (sendBytes b port t out)
 unfolding sendOf sendBytes sendingAt
-send-keeps b port t out =
-    if-both (SendKeeps b port t out) (eqb (sendRefusal (b .setup .n) (b .links) port t (length out)) 0)
-    (λ _. record { early = λ z l. absurd (omega (arith, n z .least)); late = λ _. refl; output = λ z. ap (λ (x : Sending). sendingBytes x out) (n z .none) })
-    (λ _. record { early = λ _ _. refl; late = λ l. absurd (omega (arith, send-most (b .setup .n) (b .links) port t (length out))); output = λ _. refl })
+send-answers b port t out =
+    let held = portAt (b .ports) (port - 1) in
+    if-both (SendAnswers b port out) (eqb (sendRefusal (b .setup .n) (b .links) port t (length out)) 0)
+    (λ _. sending-is (chosenOf b) (chosenSamples b) (b .setup .mac) (b .setup .back) (record { 0 = t }) held
+    (λ (s : Sending). SendAnswers b port out (storesPort b (port - 1) (sendingDone s held)) (sendingBytes s out)) (λ k l g. inr (inr ((l, g), refl, refl))) (λ _ _ _ _ _. inl refl))
+    (λ _. send-is (λ (k : ℕ). SendAnswers b port out (answers k b) out) (b .setup .n) (b .links) port t (length out)
+    (inr (inl ((omega arith, omega arith), refl, refl))) (inr (inl ((omega arith, omega arith), refl, refl))) (inr (inl ((omega arith, omega arith), refl, refl))) (inl refl))
+
+pub drift-answers : (b : Bridge) (port : ℕ) → DriftAnswers (driftAt b port)
+unfolding driftAt driftOf
+drift-answers b port = if-when DriftAnswers (ltb (b .setup .n) port) (λ _. inr refl) (λ _. by (endsOf (samplesAt port (b .clock) (b .ports))))
   where
-    n : (sendingNo (sendingAt b (port - 1) (record { 0 = t })) ≡ 0 → ⊥) → NoFrame (sendingAt b (port - 1) (record { 0 = t }))
-    n = sending-refused _ _ _ _ _ _
+    by : (e : Ends) → DriftAnswers (driftThrough e)
+    by Few = inl refl
+    by (Both x y) = inl refl

@@ -7,3 +7,4 @@ pub mod Age
 pub mod Chosen
 pub mod Send
 pub mod Drift
+pub mod Demands

@@ -8,7 +8,7 @@ use lib.Dec.{leb, eqb}
 use lib.IntN.{ℤ}
 use Rattle.times.specs.Times.{sinceOf}
 use Rattle.times.specs.declared.LocalTime.{LocalTime}
-use Rattle.delay.specs.Delay.{longestTrip, longestDelay, delayOf, measuredOf, linkDelayOf}
+use Rattle.delay.specs.Delay.{longestTrip, longestDelay, delayOf, measuredOf, linkDelayOf, delayNo}
 use Rattle.delay.specs.declared.DelaySetting.{DelaySetting}
 use Rattle.delay.specs.declared.DelaySetting.the-variants.{Measured, Fixed}
 use Rattle.delay.specs.declared.Delay.the-variants.{Is, TooLong}
@@ -65,3 +65,7 @@ delay-small rate local p tx rx n e = go (eqb (tx .0) 0 && eqb (rx .0) 0) e
     go : (t : Bool) → Is n ≡ cond t (Is 0) (measuredOf rate (sinceOf p tx) (sinceOf local rx)) → n ≤ longestDelay
     go true f = let g : n ≡ 0 = cc in omega arith
     go false f = measured-small rate (sinceOf p tx) (sinceOf local rx) n f
+
+-- the numbers of the answers
+pub delay-numbers : (n : ℕ) → (delayNo (Is n) ≡ 0) × (delayNo TooLong ≡ 9)
+delay-numbers n = (refl, refl)

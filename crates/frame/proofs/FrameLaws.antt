@@ -39,6 +39,11 @@ pub none : (b : Bool) (k n : ℕ) → unless b (suc k) n ≡ 0 → (b ≡ true) 
 none true k n e = (refl, e)
 none false k n e = absurd (omega arith)
 
+-- what holds of a refusal and of what is answered else holds either way
+pub unless-is : (P : ℕ → Type 0) (t : Bool) {k n : ℕ} → P k → P n → P (unless t k n)
+unless-is P true p q = q
+unless-is P false p q = p
+
 -- ---- read
 
 -- what an accepted frame meets
@@ -97,6 +102,16 @@ reading s f e = by (readRefusal s) refl where
   by (suc k) r = let q : readAs (suc k) (rowsOf s) ≡ readOf s = ap (λ (n : ℕ). readAs n (rowsOf s)) (sym r) in
       let z : _≡_ {A = ℕ} 0 1 = cc in absurd (omega arith)
 
+-- what holds of 4, 5, 6 and 0 holds of the answer to a frame
+pub read-is : (P : ℕ → Type 0) (s : List ℕ) → P 4 → P 5 → P 6 → P 0 → P (readRefusal s)
+unfolding readRefusal
+read-is P s p q r z =
+    let vs = rowsOf s in
+    unless-is P (eqb (length s) frameLength) p
+    (unless-is P (eqb (getD vs 0 0) stationAddress) q
+    (unless-is P (eqb (getD vs 7 0) localExperimental) q
+    (unless-is P (eqb (getD vs 8 0) timeSync) q (unless-is P (eqb (getD vs 17 0) 0) q (unless-is P (eqb (getD vs 9 0) firstVersion) r z)))))
+
 -- ---- write
 
 -- what fields that are written into n bytes meet
@@ -136,6 +151,15 @@ unrefused f n w =
     (past _ 2 (lt-ltb _ _ (w .tx))
     (past _ 2 (lt-ltb _ _ (w .rx))
     (past _ 4 (le-leb _ _ (w .room)) refl))))))
+
+-- what holds of 2, 4 and 0 holds of the answer to fields
+pub write-is : (P : ℕ → Type 0) (f : Fields) (n : ℕ) → P 2 → P 4 → P 0 → P (writeRefusal f n)
+unfolding writeRefusal
+write-is P f n p q z =
+    unless-is P (ltb (f .grand .0) second) p
+    (unless-is P (ltb (f .grand .1) second) p
+    (unless-is P (ltb (f .local .0) circle) p
+    (unless-is P (ltb (f .tx .0) circle) p (unless-is P (ltb (f .rx .0) circle) p (unless-is P (leb frameLength n) q z)))))
 
 -- what the refusal k makes of the output
 pub filled : (f : Fields) (k : ℕ) (out : List ℕ) → k ≡ writeRefusal f (length out) → k ≡ 0 → bytesOf f (drop frameLength out) ≡ writtenOf f out

@@ -15,6 +15,7 @@ use Rattle.frame.specs.Frame.{frameLength, widths, valuesOf, fieldsOf}
 use Rattle.frame.specs.Read.{rowsOf, readOf}
 use Rattle.frame.specs.Write.{writeRefusal, bytesOf, writtenOf}
 use Rattle.frame.specs.Better.{precedenceStart, precedenceBytes}
+use Rattle.frame.specs.Demands.{Typed}
 use Rattle.frame.specs.declared.Fields.{Fields}
 use Rattle.frame.specs.declared.Reading.the-variants.{Frame}
 use Rattle.numbers.proofs.Places.{Bytes, number-add, onto-append, onto-split, length-digits, value-digits}
@@ -68,23 +69,6 @@ read-written s out f b e r =
     (z, sym (filled g 0 out (sym z) refl) ∙ rows-joined s (drop frameLength out) b a))
 
 -- ---- written, then read
-
--- what the types of the fields say
-pub record Typed (f : Fields) : Type 0 where
-  pub sa0 : f .sa .0 < 256
-  pub sa1 : f .sa .1 < 256
-  pub sa2 : f .sa .2 < 256
-  pub sa3 : f .sa .3 < 256
-  pub sa4 : f .sa .4 < 256
-  pub sa5 : f .sa .5 < 256
-  pub priority1 : f .precedence .priority1 < 256
-  pub source : f .precedence .source < 256
-  pub variance : f .precedence .variance < 2 ^ 16
-  pub priority2 : f .precedence .priority2 < 256
-  pub clock : f .precedence .clock < 2 ^ 64
-  pub hop : f .hop < 256
-  pub count : f .count < 256
-  pub error : f .error .0 < 2 ^ 32
 
 -- each field fits its row
 values-held : (f : Fields) (n : ℕ) → Typed f → Written f n → Held widths (valuesOf f)

@@ -2,3 +2,4 @@ pub mod Frame
 pub mod Read
 pub mod Write
 pub mod Better
+pub mod Demands

@@ -13,7 +13,7 @@ use Rattle.choice.specs.Hop.{lastHop, hopOf}
 use Rattle.times.specs.declared.LocalTime.{LocalTime}
 use Rattle.times.specs.declared.GrandTime.{GrandTime}
 use Rattle.times.specs.declared.ErrorTime.{ErrorTime}
-use Rattle.samples.specs.Keep.{LawfulSamples, keptOf}
+use Rattle.samples.specs.Keep.{keptOf}
 use Rattle.samples.specs.Rate.{neighbourRateOf}
 use Rattle.samples.specs.declared.Samples.{Samples}
 use Rattle.samples.specs.declared.Pair.{Pair}
@@ -39,7 +39,7 @@ use Rattle.frame.specs.declared.Mac.{Mac}
 use Rattle.port.specs.Record.{silenced, agedBy, agedPort, emptyPort, usedPort}
 use Rattle.port.specs.Lawful.{LawfulPreceding, LawfulPair, LawfulPort, LawfulClock, FieldsInRange}
 use Rattle.port.specs.Own.{storedAs, ownSample, ownReadingBy, ownReadingOf}
-use Rattle.port.specs.Receive.{sampleOf, sameClock, notedPort, takenPort, refusedBy, delayedBy, followedBy, countedBy, receivedOf}
+use Rattle.port.specs.Receive.{sampleOf, sameClock, takenPort, refusedBy, delayedBy, followedBy, countedBy, receivedOf}
 use Rattle.port.specs.Send.{echoTx, echoRx, frameOf, sendingBy, sendingOf, sendingNo}
 use Rattle.port.specs.declared.Sending.{Sending}
 use Rattle.port.specs.declared.Sending.the-variants.{Refused, Frame}
@@ -141,19 +141,6 @@ module _ (setting : DelaySetting) (chosen : ℕ) (f : Fields) (at : LocalTime) (
           (λ _. delayed (linkDelayOf setting (neighbourRateOf (port .pair) (f .local) p) (f .local) p (f .tx) (f .rx)) count p e)
           (λ _. refuse 8 (omega arith) (omega arith))
 
--- what is answered but 0 is 7, 8 or 9, and then only frameCount and arrival are stored
-pub record Noted (f : Fields) (at : LocalTime) (port : Port) (r : PortDone) : Type 0 where
-  pub least : 7 ≤ r .answer
-  pub greatest : r .answer ≤ 9
-  pub stored : r .port ≡ notedPort (f .count) at port
-
-pub received-refused : (setting : DelaySetting) (chosen : ℕ) (f : Fields) (at : LocalTime) (port : Port)
-    → (receivedOf setting chosen f at port .answer ≡ 0 → ⊥) → Noted f at port (receivedOf setting chosen f at port)
-received-refused setting chosen f at port =
-    received-is setting chosen f at port (λ (r : PortDone). (r .answer ≡ 0 → ⊥) → Noted f at port r)
-    (λ k l g _. record { least = l; greatest = g; stored = refl })
-    (λ _ _ _ _ n. absurd (n refl))
-
 -- the next frameCount of a port stays, whatever it hears and however it ages
 pub received-count : (setting : DelaySetting) (chosen : ℕ) (f : Fields) (at : LocalTime) (port : Port) → receivedOf setting chosen f at port .port .count ≡ port .count
 received-count setting chosen f at port = received-is setting chosen f at port (λ (r : PortDone). r .port .count ≡ port .count) (λ _ _ _. refl) (λ _ _ _ _. refl)
@@ -166,22 +153,15 @@ aged-count at timeout port = go (port .announcement)
     go Silent = refl
     go (Announced p h when) = if-when (λ (r : Port). r .count ≡ port .count) (ltb (sinceOf at when) timeout) (λ _. refl) (λ _. refl)
 
--- the same for a reading of the own clock: 8 alone, and the samples stay
-pub record NotedClock (count : ℕ) (at : LocalTime) (clock : OwnClock) (t : ClockDone) : Type 0 where
-  pub number : t .answer ≡ 8
-  pub stored : t .clock ≡ record { preceding = Was count at; samples = clock .samples }
-
-abbrev RefusedClock : ℕ → LocalTime → OwnClock → ClockDone → Type 0
-RefusedClock count at clock t = (t .answer ≡ 0 → ⊥) → NotedClock count at clock t
-
-pub own-reading-refused : (count : ℕ) (grand : GrandTime) (at : LocalTime) (clock : OwnClock)
-    → RefusedClock count at clock (ownReadingOf count grand at clock)
+-- what holds of a refusal with 8, and of a reading that is taken, holds of the reading
+pub own-reading-is : (count : ℕ) (grand : GrandTime) (at : LocalTime) (clock : OwnClock) (P : ClockDone → Type 0) → P (storedAs 8 (clock .samples) count at)
+    → ((when : LocalTime) → P (storedAs 0 (keptOf (clock .samples) true (ownSample grand when)) count at)) → P (ownReadingOf count grand at clock)
 unfolding ownReadingOf
-own-reading-refused count grand at clock = go (clock .preceding)
+own-reading-is count grand at clock P refuse take = go (clock .preceding)
   where
-    go : (preceding : Preceding) → RefusedClock count at clock (ownReadingBy preceding count grand at (clock .samples))
-    go Never = λ _. record { number = refl; stored = refl }
-    go (Was held when) = if-when (RefusedClock count at clock) (eqb count (nextCount held)) (λ _ n. absurd (n refl)) (λ _ _. record { number = refl; stored = refl })
+    go : (preceding : Preceding) → P (ownReadingBy preceding count grand at (clock .samples))
+    go Never = refuse
+    go (Was held when) = if-when P (eqb count (nextCount held)) (λ _. take when) (λ _. refuse)
 
 -- ---- sending
 
@@ -230,19 +210,6 @@ sending-written choice samples mac back t port room f ht l r =
     echo-small : (s : Pair) → LawfulPair s → (echoTx s .0 < circle) × (echoRx s .0 < circle)
     echo-small Unset q = (omega arith, omega arith)
     echo-small (Set a b) q = q
-
--- what is answered but 0 is 10 to 13, and then there is no frame
-pub record NoFrame (s : Sending) : Type 0 where
-  pub least : 10 ≤ sendingNo s
-  pub greatest : sendingNo s ≤ 13
-  pub none : s ≡ Refused (sendingNo s)
-
-pub sending-refused : (choice : Candidate) (samples : Samples) (mac : Mac) (back : ℕ) (t : LocalTime) (port : Port)
-    → (sendingNo (sendingOf choice samples mac back t port) ≡ 0 → ⊥) → NoFrame (sendingOf choice samples mac back t port)
-sending-refused choice samples mac back t port =
-    sending-is choice samples mac back t port (λ (s : Sending). (sendingNo s ≡ 0 → ⊥) → NoFrame s)
-    (λ k l g _. record { least = l; greatest = g; none = refl })
-    (λ _ _ _ _ _ n. absurd (n refl))
 
 -- a frame is sent only off two samples, with the grand time and errorTime read off them
 abbrev pub ReadOff : Samples → LocalTime → ℕ → Fields → Type 0
@@ -295,20 +262,9 @@ received-lawful setting chosen f at port h r l =
       echo = (r .local, subst LawfulPreceding e (l .preceding));
     })
 
-abbrev Clocked : ClockDone → Type 0
-Clocked t = LawfulClock (t .clock)
-
 pub own-reading-lawful : (count : ℕ) (grand : GrandTime) (at : LocalTime) (clock : OwnClock)
     → at .0 < circle → InRange grand → LawfulClock clock → LawfulClock (ownReadingOf count grand at clock .clock)
-unfolding ownReadingOf
-own-reading-lawful count grand at clock h r l = go (clock .preceding)
-  where
-    kept : (k : ℕ) (samples : Samples) → LawfulSamples samples → Clocked (storedAs k samples count at)
-    kept k samples s = record { preceding = h; samples = s }
-
-    go : (preceding : Preceding) → Clocked (ownReadingBy preceding count grand at (clock .samples))
-    go Never = kept 8 (clock .samples) (l .samples)
-    go (Was held when) =
-        if-when Clocked (eqb count (nextCount held))
-        (λ _. kept 0 _ (kept-lawful (clock .samples) true (ownSample grand when) (l .samples) r))
-        (λ _. kept 8 (clock .samples) (l .samples))
+own-reading-lawful count grand at clock h r l =
+    own-reading-is count grand at clock (λ (t : ClockDone). LawfulClock (t .clock))
+    (record { preceding = h; samples = l .samples })
+    (λ when. record { preceding = h; samples = kept-lawful (clock .samples) true (ownSample grand when) (l .samples) r })

@@ -3,3 +3,4 @@ pub mod Lawful
 pub mod Own
 pub mod Receive
 pub mod Send
+pub mod Edges

@@ -2,7 +2,7 @@
 use Prim.Native.Nat.{ℕ}
 use mathlib.Core.Bool.{Bool, false, cond}
 use lib.Dec.{eqb}
-use Rattle.refusals.specs.Refusals.{done, lastHopHeard, notNext, delayTooLong}
+use Rattle.refusals.specs.Refusals.{done, lastHopHeard, notNext}
 use Rattle.times.specs.Times.{earlierBy, nextCount}
 use Rattle.choice.specs.Hop.{lastHop, hopOf}
 use Rattle.times.specs.declared.LocalTime.{LocalTime}
@@ -10,7 +10,7 @@ use Rattle.samples.specs.Rate.{neighbourRateOf}
 use Rattle.samples.specs.Keep.{keptOf}
 use Rattle.samples.specs.declared.Sample.{Sample}
 use Rattle.samples.specs.declared.Pair.the-variants.{Set}
-use Rattle.delay.specs.Delay.{linkDelayOf}
+use Rattle.delay.specs.Delay.{linkDelayOf, delayNo}
 use Rattle.delay.specs.declared.DelaySetting.{DelaySetting}
 use Rattle.delay.specs.declared.Delay.{Delay}
 use Rattle.delay.specs.declared.Delay.the-variants.{Is, TooLong}
@@ -54,7 +54,7 @@ takenPort f hop p delay at port = record {
 
 -- step 3, and 9 for a delay that is too long
 abbrev pub delayedBy : Delay → ℕ → Fields → LocalTime → LocalTime → Port → PortDone
-delayedBy TooLong chosen f p at port = refusedBy delayTooLong (f .count) at port
+delayedBy TooLong chosen f p at port = refusedBy (delayNo TooLong) (f .count) at port
 delayedBy (Is delay) chosen f p at port = record { answer = done; port = takenPort f (hopOf (f .hop) chosen) p delay at port }
 
 -- steps 1 and 2, for a frame whose preceding one arrived at p

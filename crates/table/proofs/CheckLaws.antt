@@ -11,7 +11,7 @@ use Rattle.times.specs.Times.{circle, second}
 use Rattle.frame.specs.Frame.{frameLength}
 use Rattle.frame.specs.Read.{unless}
 use Rattle.table.specs.Arguments.{hasLink, onPort, portRefusal, sendRefusal, ownClockRefusal}
-use Rattle.frame.proofs.FrameLaws.{none}
+use Rattle.frame.proofs.FrameLaws.{none, unless-is}
 
 -- ---- a port with a link, at a local time in range
 
@@ -38,28 +38,17 @@ send-ready n links port t room e =
     let r = on-port n links port t _ e in
     (r .0, leb-true _ _ (none (leb frameLength room) 3 0 (r .1) .0))
 
--- no refusal but the rest is above 3
-on-port-most : (n links port at rest k : ℕ) → 3 ≤ k → rest ≤ k → onPort n links port at rest ≤ k
-on-port-most n links port at rest k h l = by (leb 1 port) (leb port n) (ltb at circle) (hasLink links port)
-  where
-    by : (a b c d : Bool) → unless a 2 (unless b 2 (unless c 2 (unless d 3 rest))) ≤ k
-    by false b c d = omega arith
-    by true false c d = omega arith
-    by true true false d = omega arith
-    by true true true false = h
-    by true true true true = l
+-- what holds of each refusal and of the rest holds of the answer
+on-port-is : (P : ℕ → Type 0) (n links port at rest : ℕ) → P 2 → P 3 → P rest → P (onPort n links port at rest)
+on-port-is P n links port at rest p q r = unless-is P (leb 1 port) p (unless-is P (leb port n) p (unless-is P (ltb at circle) p (unless-is P (hasLink links port) q r)))
 
-pub port-most : (n links port at : ℕ) → portRefusal n links port at ≤ 3
+pub port-is : (P : ℕ → Type 0) (n links port at : ℕ) → P 2 → P 3 → P 0 → P (portRefusal n links port at)
 unfolding portRefusal
-port-most n links port at = on-port-most n links port at 0 3 (omega arith) (omega arith)
+port-is P n links port at p q z = on-port-is P n links port at 0 p q z
 
-pub send-most : (n links port t room : ℕ) → sendRefusal n links port t room ≤ 4
+pub send-is : (P : ℕ → Type 0) (n links port t room : ℕ) → P 2 → P 3 → P 4 → P 0 → P (sendRefusal n links port t room)
 unfolding sendRefusal
-send-most n links port t room = on-port-most n links port t _ 4 (omega arith) (short (leb frameLength room))
-  where
-    short : (r : Bool) → unless r 4 0 ≤ 4
-    short true = omega arith
-    short false = omega arith
+send-is P n links port t room p q r z = on-port-is P n links port t _ p q (unless-is P (leb frameLength room) r z)
 
 -- what a refusal k on the port is, where the rest is another: k itself, or the rest where it is none
 abbrev orRest : ℕ → ℕ → ℕ
@@ -102,6 +91,10 @@ own-ready capable seconds fraction at e =
     let b = none (ltb fraction second) 1 _ (a .1) in
     let c = none (ltb at circle) 1 _ (b .1) in
     record { whole = ltb-true _ _ (a .0); part = ltb-true _ _ (b .0); time = ltb-true _ _ (c .0) }
+
+pub own-is : (P : ℕ → Type 0) (capable : Bool) (seconds fraction at : ℕ) → P 2 → P 10 → P 0 → P (ownClockRefusal capable seconds fraction at)
+unfolding ownClockRefusal
+own-is P capable seconds fraction at p q z = unless-is P (ltb seconds second) p (unless-is P (ltb fraction second) p (unless-is P (ltb at circle) p (unless-is P capable q z)))
 
 -- ---- the bound of a mask, as the machine shifts it
 

@@ -1,0 +1,163 @@
+-- What the theorems on the calls say: which answers there are and what each leaves, the line of demand 3, the drift, the candidates, and calls in a row.
+use mathlib.Core.Path.{_≡_}
+use mathlib.Core.Bool.{cond, not, _&&_}
+use mathlib.Core.List.{List, [], _∷_}
+use mathlib.Core.Logic.{_⊎_}
+use Prim.Native.Nat.{ℕ, _+_, _-_, _*_, _≤_}
+use lib.Dec.{eqb}
+use lib.IntN.{pos, natAbs}
+use lib.Signed.{nonNeg}
+use lib.Ieee.{Float}
+use lib.Ieee.Exact.{HasValue}
+use Rattle.numbers.specs.Digits.{numberAt}
+use Rattle.times.specs.Times.{sinceOf}
+use Rattle.samples.specs.Rate.{parts}
+use Rattle.samples.specs.Keep.{endsOf, rateBetween}
+use Rattle.samples.specs.declared.Sample.{Sample}
+use Rattle.samples.specs.declared.Ends.the-variants.{Both}
+use Rattle.line.specs.Sent.{reachOf}
+use Rattle.line.specs.Line.{NearLine}
+use Rattle.line.specs.Drift.{million, driftNo}
+use Rattle.line.specs.declared.Drift.{Drift}
+use Rattle.choice.specs.Choose.{rankOf, ownCandidate}
+use Rattle.choice.specs.declared.Candidate.{Candidate}
+use Rattle.choice.specs.declared.Candidate.the-variants.{Nothing, Clock}
+use Rattle.frame.specs.Read.{readOf, readNo}
+use Rattle.frame.specs.declared.Fields.{Fields}
+use Rattle.frame.specs.declared.Reading.{Reading}
+use Rattle.frame.specs.declared.Reading.the-variants.{Frame}
+use Rattle.port.specs.Record.{usedPort}
+use Rattle.port.specs.Receive.{notedPort}
+use Rattle.port.specs.declared.Preceding.the-variants.{Was}
+use Rattle.table.specs.Table.{portAt, samplesAt, candidatesFrom}
+use Rattle.table.specs.Arguments.{bit, sendRefusal, maskBeyond}
+use Rattle.bridge.specs.State.{withPort, withClock}
+use Rattle.bridge.specs.Setup.{noBridge}
+use Rattle.bridge.specs.Links.{linksOf, linkNo}
+use Rattle.bridge.specs.Own.{ownClockOf}
+use Rattle.bridge.specs.Receive.{receiveOf}
+use Rattle.bridge.specs.Age.{ageOf}
+use Rattle.bridge.specs.Send.{chosenSamples, sendOf}
+use Rattle.bridge.specs.declared.Bridge.{Bridge}
+use Rattle.bridge.specs.declared.Done.{Done}
+use Rattle.bridge.specs.declared.Linked.{Linked}
+
+-- ---- demand 1: the answers of each call, and what each refusal leaves
+
+-- k is from a to b
+abbrev pub From : ℕ → ℕ → ℕ → Type 0
+From a b k = (a ≤ k) × (k ≤ b)
+
+abbrev pub ReadAnswers : Reading → Type 0
+ReadAnswers r = (readNo r ≡ 0) ⊎ From 4 6 (readNo r)
+
+-- write: no refusal touches the output
+abbrev pub WriteAnswers : List ℕ → ℕ → List ℕ → Type 0
+WriteAnswers out k left = (k ≡ 0) ⊎ (((k ≡ 2) ⊎ (k ≡ 4)) × (left ≡ out))
+
+-- setup, 1: what stands for no state
+abbrev pub SetupAnswers : Done → Type 0
+SetupAnswers d = (d .answer ≡ 0) ⊎ ((d .answer ≡ 1) × (d .next ≡ noBridge))
+
+-- links and age, 2: nothing
+abbrev pub LinksAnswers : Bridge → Linked → Type 0
+LinksAnswers b d = (linkNo (d .answer) ≡ 0) ⊎ ((linkNo (d .answer) ≡ 2) × (d .next ≡ b))
+
+abbrev pub AgeAnswers : Bridge → Done → Type 0
+AgeAnswers b d = (d .answer ≡ 0) ⊎ ((d .answer ≡ 2) × (d .next ≡ b))
+
+-- own clock, 2 and 10: nothing; 8: frameCount and now
+abbrev pub OwnAnswers : Bridge → ℕ → ℕ → Done → Type 0
+OwnAnswers b count at d =
+    (d .answer ≡ 0)
+    ⊎ ((((d .answer ≡ 2) ⊎ (d .answer ≡ 10)) × (d .next ≡ b))
+    ⊎ ((d .answer ≡ 8) × (d .next ≡ withClock b (record { preceding = Was count (record { 0 = at }); samples = b .clock .samples }))))
+
+-- receive, 2 to 6: nothing; 7 to 9: the frame was read, and its frameCount and arrival are stored, as the next p and not as heard-at
+abbrev pub ReceiveAnswers : Bridge → ℕ → List ℕ → ℕ → Done → Type 0
+ReceiveAnswers b port frame arrival d =
+    (d .answer ≡ 0)
+    ⊎ ((From 2 6 (d .answer) × (d .next ≡ b))
+    ⊎ (From 7 9 (d .answer)
+    × ((f : Fields) × (readOf frame ≡ Frame f) × (d .next ≡ withPort b (port - 1) (notedPort (f .count) (record { 0 = arrival }) (portAt (b .ports) (port - 1)))))))
+
+-- send, 2 to 4: nothing; 10 to 13: the port's next frameCount; and no refusal touches the output
+abbrev pub SendAnswers : Bridge → ℕ → List ℕ → Done → List ℕ → Type 0
+SendAnswers b port out d left =
+    (d .answer ≡ 0)
+    ⊎ ((From 2 4 (d .answer) × (d .next ≡ b) × (left ≡ out))
+    ⊎ (From 10 13 (d .answer) × (d .next ≡ withPort b (port - 1) (usedPort (portAt (b .ports) (port - 1)))) × (left ≡ out)))
+
+abbrev pub DriftAnswers : Drift → Type 0
+DriftAnswers x = (driftNo x ≡ 0) ⊎ (driftNo x ≡ 2)
+
+-- ---- demand 3
+
+-- grandTime stands in these bytes of a frame
+abbrev pub grandStart : ℕ
+grandStart = 32
+
+abbrev pub grandBytes : ℕ
+grandBytes = 10
+
+-- the oldest and the newest kept sample of the chosen clock, and that the grand time in these bytes lies near the line through them
+pub record OnLine (b : Bridge) (t : ℕ) (bytes : List ℕ) : Type 0 where
+  pub older : Sample
+  pub newer : Sample
+  pub kept : endsOf (chosenSamples b) ≡ Both older newer
+  pub near : NearLine older newer (pos (numberAt bytes grandStart grandBytes)) (reachOf (sinceOf (record { 0 = t }) (newer .local)) (b .setup .back)) (b .setup .back)
+
+-- ---- drift
+
+-- the oldest and the newest kept sample of the own clock, 0, or of the port, and that x is the rate between them × 1,000,000 / 2^35, with nothing rounded
+pub record ExactDrift (b : Bridge) (port : ℕ) (x : Float) : Type 0 where
+  pub older : Sample
+  pub newer : Sample
+  pub kept : endsOf (samplesAt port (b .clock) (b .ports)) ≡ Both older newer
+  pub exact : HasValue x (not (nonNeg (rateBetween older newer))) (natAbs (rateBetween older newer) * million) parts
+
+-- ---- the candidates
+
+-- own clock first, then the ports
+abbrev pub candidates : Bridge → List Candidate
+candidates b = ownCandidate (b .setup .capable) (b .setup .own) ∷ candidatesFrom 1 (b .ports)
+
+-- x is no worse than y: y is no candidate, or both are and x has no greater rank
+abbrev pub NoWorse : Candidate → Candidate → Type 0
+NoWorse x Nothing = Unit {0}
+NoWorse Nothing (Clock q k j) = ⊥
+NoWorse (Clock p h i) (Clock q k j) = rankOf p h i ≤ rankOf q k j
+
+-- ---- calls in a row
+
+-- a call that may change the state, with its arguments; a send's output by its length
+pub data Call : Type 0 where
+  links : ℕ → Call
+  own-clock : ℕ → ℕ → ℕ → ℕ → Call
+  receive : ℕ → List ℕ → ℕ → Call
+  age : ℕ → Call
+  send : ℕ → ℕ → ℕ → Call
+
+abbrev pub after : Bridge → Call → Bridge
+after b (links mask) = linksOf b mask .next
+after b (own-clock count seconds fraction at) = ownClockOf b count seconds fraction at .next
+after b (receive port frame arrival) = receiveOf b port frame arrival .next
+after b (age at) = ageOf b at .next
+after b (send port t room) = sendOf b port t room .next
+
+unfoldable pub run : Bridge → List Call → Bridge
+run b [] = b
+run b (c ∷ cs) = run (after b c) cs
+
+-- how many sends of the port at index i used a frameCount since its link came up: none once its link goes down, one more with
+-- each send that is refused by its number alone no more
+abbrev pub usedBy : ℕ → Bridge → Call → ℕ → ℕ
+usedBy i b (links mask) n = cond (maskBeyond (b .setup .n) mask) n (cond (eqb (bit (b .links) i) 1 && eqb (bit mask i) 0) 0 n)
+usedBy i b (own-clock count seconds fraction at) n = n
+usedBy i b (receive port frame arrival) n = n
+usedBy i b (age at) n = n
+usedBy i b (send port t room) n = cond (eqb (sendRefusal (b .setup .n) (b .links) port t room) 0) (cond (eqb (port - 1) i) (n + 1) n) n
+
+unfoldable pub used : ℕ → Bridge → List Call → ℕ → ℕ
+used i b [] n = n
+used i b (c ∷ cs) n = used i (after b c) cs (usedBy i b c n)
