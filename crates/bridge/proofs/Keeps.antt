@@ -46,13 +46,6 @@ Next d = Lawful (d .next)
 abbrev LinkedNext : Linked → Type 0
 LinkedNext d = Lawful (d .next)
 
--- what is handed back is as wanted, and so it is lawful
-pub out : (want got : Done) → got ≡ want → Lawful (want .next) → (got ≡ want) × Lawful (got .next)
-out want got e l = (e, rw e l)
-
-pub links-out : (want got : Linked) → got ≡ want → Lawful (want .next) → (got ≡ want) × Lawful (got .next)
-links-out want got e l = (e, rw e l)
-
 -- ---- a state by its parts
 
 parts-lawful : (s : Setup) (links : ℕ) (clock : OwnClock) (ports : List Port) → length (s .settings) ≡ mostPorts → s .n ≤ mostPorts → s .back < longestElapsed

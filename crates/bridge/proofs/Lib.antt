@@ -1,5 +1,6 @@
 pub mod StateLaws
 pub mod Keeps
+pub mod PromiseLaws
 pub mod Refused
 pub mod Line
 pub mod Least

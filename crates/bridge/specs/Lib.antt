@@ -8,3 +8,4 @@ pub mod Chosen
 pub mod Send
 pub mod Drift
 pub mod Demands
+pub mod Promises

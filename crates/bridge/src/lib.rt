@@ -1,17 +1,11 @@
 // The bridge: a table of eight ports and the station's own clock, handed in and back by value, and the calls on it.
 ghost use mathlib.Core.Path.{_≡_};
-ghost use Prim.Native.Nat.{_<_};
-ghost use lib.ListN.{length};
-ghost use Rattle.port.specs.Lawful.{FieldsInRange};
 ghost use Rattle.bridge.specs.State.{Lawful};
 ghost use Rattle.bridge.specs.Setup.{freshOf, setupOf};
-ghost use Rattle.bridge.specs.Links.{linksOf};
 ghost use Rattle.bridge.specs.Own.{ownClockOf};
-ghost use Rattle.bridge.specs.Receive.{receiveFieldsOf, receiveOf};
+ghost use Rattle.bridge.specs.Receive.{receiveOf};
 ghost use Rattle.bridge.specs.Age.{ageOf};
-ghost use Rattle.bridge.specs.Chosen.{chosenOf};
-ghost use Rattle.bridge.specs.Send.{sendOf, sendBytes};
-ghost use Rattle.bridge.specs.Drift.{driftAt};
+ghost use Rattle.bridge.specs.Promises.{DonePromise, LinksPromise, ChosenPromise, SendPromise, DriftPromise};
 use choice::Candidate;
 use choice::candidates;
 use frame::Fields;
@@ -75,8 +69,7 @@ fn fresh(s: Setup) -> Bridge
 
 // Setup: 0 and the first state, or 1 and the state that stands for none, which has no port and no own clock.
 pub fn setup(given: Setup) -> Done
-    ensures { λ r. ⌜ r ≡ setupOf given ⌝ }
-    ensures { λ r. ⌜ Lawful (r .next) ⌝ }
+    ensures { λ r. ⌜ DonePromise (setupOf given) r ⌝ }
 {
     if arguments::setup_fits(given) {
         return Done {
@@ -93,8 +86,7 @@ pub fn setup(given: Setup) -> Done
 // Links: the ports that have a link are the set bits of the mask; a port that loses its link loses its record.
 pub fn links(b: Bridge, mask: u8) -> Linked
     requires { ⌜ Lawful b ⌝ }
-    ensures { λ r. ⌜ r ≡ linksOf b mask ⌝ }
-    ensures { λ r. ⌜ Lawful (r .next) ⌝ }
+    ensures { λ r. ⌜ LinksPromise b mask r ⌝ }
 {
     if arguments::beyond(b.setup.n, mask) {
         return Linked {
@@ -116,8 +108,7 @@ pub fn links(b: Bridge, mask: u8) -> Linked
 // Own clock: a reading of it, whose grand time belongs to the local time of the preceding one.
 pub fn own_clock(b: Bridge, count: u8, seconds: u64, fraction: u64, at: u64) -> Done
     requires { ⌜ Lawful b ⌝ }
-    ensures { λ r. ⌜ r ≡ ownClockOf b count seconds fraction at ⌝ }
-    ensures { λ r. ⌜ Lawful (r .next) ⌝ }
+    ensures { λ r. ⌜ DonePromise (ownClockOf b count seconds fraction at) r ⌝ }
 {
     let refusal = arguments::own_clock_refusal(b.setup.capable, seconds, fraction, at);
     if refusal != refusals::DONE {
@@ -145,8 +136,7 @@ pub fn own_clock(b: Bridge, count: u8, seconds: u64, fraction: u64, at: u64) -> 
 // Receive: a frame that arrived at a port.
 pub fn receive(mut b: Bridge, port: u8, frame: &[u8], arrival: u64) -> Done
     requires { ⌜ Lawful b ⌝ }
-    ensures { λ r. ⌜ r ≡ receiveOf b port (now (frame .entry)) arrival ⌝ }
-    ensures { λ r. ⌜ Lawful (r .next) ⌝ }
+    ensures { λ r. ⌜ DonePromise (receiveOf b port (now (frame .entry)) arrival) r ⌝ }
 {
     let refusal = arguments::port_refusal(b.setup.n, b.links, port, arrival);
     if refusal != refusals::DONE {
@@ -183,8 +173,7 @@ pub fn receive(mut b: Bridge, port: u8, frame: &[u8], arrival: u64) -> Done
 // Age: announcements as old as the timeout go, with samples and echo.
 pub fn age(b: Bridge, at: u64) -> Done
     requires { ⌜ Lawful b ⌝ }
-    ensures { λ r. ⌜ r ≡ ageOf b at ⌝ }
-    ensures { λ r. ⌜ Lawful (r .next) ⌝ }
+    ensures { λ r. ⌜ DonePromise (ageOf b at) r ⌝ }
 {
     if arguments::off_circle(at) {
         return Done {
@@ -205,7 +194,7 @@ pub fn age(b: Bridge, at: u64) -> Done
 // Chosen: the best clock, or none.
 pub fn chosen(b: Bridge) -> Candidate
     requires { ⌜ Lawful b ⌝ }
-    ensures { λ r. ⌜ r ≡ chosenOf b ⌝ }
+    ensures { λ r. ⌜ ChosenPromise b r ⌝ }
 {
     let own = b.setup.own;
     let ports = b.ports;
@@ -215,9 +204,7 @@ pub fn chosen(b: Bridge) -> Candidate
 // Send: fills the output with the port's next frame, whose preceding one departed at t.
 pub fn send(mut b: Bridge, port: u8, t: u64, out: &mut [u8]) -> Done
     requires { ⌜ Lawful b ⌝ }
-    ensures { λ r. ⌜ r ≡ sendOf b port t (length (now (out .entry))) ⌝ }
-    ensures { λ _. ⌜ now (out .exit) ≡ sendBytes b port t (now (out .entry)) ⌝ }
-    ensures { λ r. ⌜ Lawful (r .next) ⌝ }
+    ensures { λ r. ⌜ SendPromise b port t (now (out .entry)) r (now (out .exit)) ⌝ }
 {
     let refusal = arguments::send_refusal(b.setup.n, b.links, port, t, out.len());
     if refusal != refusals::DONE {
@@ -246,7 +233,7 @@ pub fn send(mut b: Bridge, port: u8, t: u64, out: &mut [u8]) -> Done
 // Drift: of the own clock, 0, or of a port.
 pub fn drift(b: Bridge, port: u8) -> Drift
     requires { ⌜ Lawful b ⌝ }
-    ensures { λ r. ⌜ r ≡ driftAt b port ⌝ }
+    ensures { λ r. ⌜ DriftPromise b port r ⌝ }
 {
     if b.setup.n < port {
         return Drift::Refused;

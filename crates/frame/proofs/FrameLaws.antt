@@ -13,10 +13,12 @@ use Rattle.times.specs.Times.{second, circle}
 use Rattle.choice.specs.Precedence.{keyOf}
 use Rattle.choice.specs.declared.Precedence.{Precedence}
 use Rattle.frame.specs.Frame.{frameLength, stationAddress, localExperimental, timeSync, firstVersion, fieldsOf}
-use Rattle.frame.specs.Read.{unless, rowsOf, constantsRefusal, readRefusal, readAs, readOf}
+use Rattle.frame.specs.Read.{unless, rowsOf, constantsRefusal, readRefusal, readAs, readOf, readNo}
 use Rattle.frame.specs.Write.{writeRefusal, bytesOf, writtenAs, writtenOf}
 use Rattle.frame.specs.Better.{standingBy, standingOf, winnerOf}
+use Rattle.frame.specs.Promises.{ReadPromise}
 use Rattle.frame.specs.declared.Fields.{Fields}
+use Rattle.frame.specs.declared.Reading.{Reading}
 use Rattle.frame.specs.declared.Reading.the-variants.{Frame, Refused}
 use Rattle.frame.specs.declared.Standing.{Standing}
 use Rattle.frame.specs.declared.Standing.the-variants.{Loses, Stands}
@@ -92,6 +94,15 @@ refused (suc k) s e h = ap (λ (n : ℕ). readAs n (rowsOf s)) e
 pub framed : (k : ℕ) (s : List ℕ) → k ≡ readRefusal s → k ≡ 0 → Frame (fieldsOf (rowsOf s)) ≡ readOf s
 unfolding readOf
 framed k s e h = ap (λ (n : ℕ). readAs n (rowsOf s)) (sym h ∙ e)
+
+-- what is read is as wanted, and so is its number
+pub promised : (s : List ℕ) (r : Reading) → r ≡ readOf s → ReadPromise s r
+unfolding readOf
+promised s r e = record { answer = e; number = ap readNo e ∙ by (readRefusal s) }
+  where
+    by : (k : ℕ) → readNo (readAs k (rowsOf s)) ≡ k
+    by zero = refl
+    by (suc k) = refl
 
 -- what a frame that is read was
 pub reading : (s : List ℕ) (f : Fields) → readOf s ≡ Frame f → (readRefusal s ≡ 0) × (fieldsOf (rowsOf s) ≡ f)

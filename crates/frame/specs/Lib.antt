@@ -3,3 +3,4 @@ pub mod Read
 pub mod Write
 pub mod Better
 pub mod Demands
+pub mod Promises

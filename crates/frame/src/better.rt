@@ -1,6 +1,7 @@
 // The better of two frames, as a part of it.
 ghost use mathlib.Core.Path.{_≡_};
-ghost use Rattle.frame.specs.Better.{standingOf, winnerOf, lies, betterPartOf};
+ghost use Rattle.frame.specs.Better.{standingOf, winnerOf};
+ghost use Rattle.frame.specs.Promises.{BetterPromise};
 use crate::Reading;
 use crate::Standing;
 use crate::Winner;
@@ -53,7 +54,7 @@ fn winner(first: Standing, second: Standing) -> Winner
 
 // The 13 precedence bytes of the better frame, where they stand; nothing of the first where both lose.
 pub fn better<'a>(a: &'a [u8], b: &'a [u8]) -> &'a [u8]
-    ensures { λ r. ⌜ lies r ≡ betterPartOf (a .entry) (b .entry) ⌝ }
+    ensures { λ r. ⌜ BetterPromise (a .entry) (b .entry) r ⌝ }
 {
     match winner(standing(a), standing(b)) {
         Winner::Neither => &a[0..0],

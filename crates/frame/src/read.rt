@@ -2,7 +2,8 @@
 ghost use mathlib.Core.Path.{_≡_};
 ghost use Rattle.numbers.specs.Table.{Held};
 ghost use Rattle.frame.specs.Frame.{widths, macOf, precedenceIn, fieldsOf};
-ghost use Rattle.frame.specs.Read.{constantsRefusal, readOf};
+ghost use Rattle.frame.specs.Read.{constantsRefusal};
+ghost use Rattle.frame.specs.Promises.{ReadPromise};
 use crate::Fields;
 use crate::Mac;
 use crate::Reading;
@@ -94,7 +95,7 @@ fn fields(values: [u64; 24]) -> Fields
 
 // The fields of a frame, or 4, 5 or 6.
 pub fn read(frame: &[u8]) -> Reading
-    ensures { λ r. ⌜ r ≡ readOf (now (frame .entry)) ⌝ }
+    ensures { λ r. ⌜ ReadPromise (now (frame .entry)) r ⌝ }
 {
     if frame.len() != layout::FRAME_LENGTH {
         return Reading::Refused(refusals::WRONG_LENGTH);

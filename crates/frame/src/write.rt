@@ -3,7 +3,8 @@ ghost use mathlib.Core.Path.{_≡_};
 ghost use Prim.Native.Nat.{_≤_};
 ghost use lib.ListN.{length, drop};
 ghost use Rattle.frame.specs.Frame.{frameLength, valuesOf};
-ghost use Rattle.frame.specs.Write.{writeRefusal, bytesOf, writtenOf};
+ghost use Rattle.frame.specs.Write.{writeRefusal, bytesOf};
+ghost use Rattle.frame.specs.Promises.{WritePromise};
 use crate::Fields;
 use crate::layout;
 use crate::read;
@@ -77,8 +78,7 @@ pub fn put(f: Fields, out: &mut [u8])
 
 // Fills the first 64 bytes of out with the frame and answers 0, or answers 2 or 4 and out stays.
 pub fn write(f: Fields, out: &mut [u8]) -> u8
-    ensures { λ r. ⌜ r ≡ writeRefusal f (length (now (out .entry))) ⌝ }
-    ensures { λ _. ⌜ now (out .exit) ≡ writtenOf f (now (out .entry)) ⌝ }
+    ensures { λ r. ⌜ WritePromise f (now (out .entry)) r (now (out .exit)) ⌝ }
 {
     let no = write_refusal(f, out.len());
     if no == refusals::DONE {

@@ -2,7 +2,8 @@
 use borrow.Author.Needs.{needs}
 use mathlib.Core.Path.{sym, _∙_}
 use Rattle.bridge.proofs.StateLaws.{age-refused, age-done}
-use Rattle.bridge.proofs.Keeps.{out, age-lawful}
+use Rattle.bridge.proofs.Keeps.{age-lawful}
+use Rattle.bridge.proofs.PromiseLaws.{out}
 use Rattle.bridge.proofs.age.Statement.{statement}
 use Rattle.bridge.proofs.age.Tie as tie
 

@@ -1,6 +1,7 @@
 -- The choice over the state's own parts.
 use borrow.Author.Needs.{needs}
 use Rattle.bridge.specs.Chosen.{chosenOf}
+use Rattle.bridge.proofs.PromiseLaws.{chosen-out}
 use Rattle.bridge.proofs.chosen.Statement.{statement}
 use Rattle.bridge.proofs.chosen.Tie as tie
 
@@ -9,7 +10,7 @@ choice-requires c κs = search needs
 
 returns : tie.Need-returns
 unfolding chosenOf
-returns c = c .choice .ensures
+returns c = chosen-out _ _ (c .choice .ensures)
 
 pub chosen-spec : {M : Type 1} → statement M
 chosen-spec = tie.close (tie.spec choice-requires returns)

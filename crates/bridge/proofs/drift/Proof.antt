@@ -5,11 +5,12 @@ use Rattle.samples.specs.Keep.{LawfulSamples}
 use Rattle.line.specs.Drift.{driftOf}
 use Rattle.table.proofs.TableLaws.{samples-lawful}
 use Rattle.bridge.proofs.StateLaws.{drift-refused, drift-done}
+use Rattle.bridge.proofs.PromiseLaws.{drift-out}
 use Rattle.bridge.proofs.drift.Statement.{statement}
 use Rattle.bridge.proofs.drift.Tie as tie
 
 returns : tie.Need-returns
-returns c = drift-refused _ _ (c .if1 .taken)
+returns c = drift-out _ _ _ (drift-refused _ _ (c .if1 .taken))
 
 samples-at-requires : tie.Need-samples-at-requires
 samples-at-requires c κs = search needs
@@ -22,7 +23,7 @@ drift-requires c κs =
 returns-2 : tie.Need-returns-2
 returns-2 c =
     let m = c .before in
-    drift-done _ _ _ (m .before .before .before .if1 .left) (c .drift .ensures ∙ ap driftOf (m .samples-at .ensures))
+    drift-out _ _ _ (drift-done _ _ _ (m .before .before .before .if1 .left) (c .drift .ensures ∙ ap driftOf (m .samples-at .ensures)))
 
 pub drift-spec : {M : Type 1} → statement M
 drift-spec = tie.close (tie.spec returns samples-at-requires drift-requires returns-2)

@@ -3,7 +3,8 @@ use borrow.Author.Needs.{needs}
 use mathlib.Core.Path.{sym, _∙_}
 use Rattle.table.proofs.CheckLaws.{own-ready}
 use Rattle.bridge.proofs.StateLaws.{own-refused, own-done}
-use Rattle.bridge.proofs.Keeps.{out, own-lawful}
+use Rattle.bridge.proofs.Keeps.{own-lawful}
+use Rattle.bridge.proofs.PromiseLaws.{out}
 use Rattle.bridge.proofs.own_clock.Statement.{statement}
 use Rattle.bridge.proofs.own_clock.Tie as tie
 

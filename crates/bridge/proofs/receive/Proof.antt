@@ -6,15 +6,17 @@ use Prim.Native.Nat.{ℕ, _-_, _<_}
 use Rattle.choice.specs.Choose.{chosenHop}
 use Rattle.port.specs.Receive.{receivedOf}
 use Rattle.table.specs.Table.{portAt}
-use Rattle.bridge.specs.State.{Lawful, storesPort}
+use Rattle.bridge.specs.State.{storesPort}
 use Rattle.bridge.specs.Chosen.{chosenOf}
 use Rattle.bridge.specs.Receive.{delayAt, receiveFieldsOf, receiveOf}
+use Rattle.bridge.specs.Promises.{DonePromise}
 use Rattle.bridge.specs.declared.Done.{Done}
 use Rattle.numbers.proofs.Places.{Bytes}
 use Rattle.port.proofs.PortLaws.{read-in-range}
 use Rattle.table.proofs.CheckLaws.{Ready, port-ready}
 use Rattle.bridge.proofs.StateLaws.{receive-refused, receive-read}
-use Rattle.bridge.proofs.Keeps.{out, receive-lawful}
+use Rattle.bridge.proofs.Keeps.{receive-lawful}
+use Rattle.bridge.proofs.PromiseLaws.{out}
 use Rattle.bridge.proofs.receive.Statement.{statement}
 use Rattle.bridge.proofs.receive.Tie as tie
 
@@ -26,7 +28,7 @@ bytes : (k : tie.After-port-refusal) → Bytes (k .before .before .args .frame .
 bytes k i = omega (arith, k .before .shared-slice-known .given i)
 
 lawful : (k : tie.After-port-refusal) (d : Done) → let a = k .before .before .args in
-    d ≡ receiveOf (a .t1) (a .port) (a .frame .now) (a .arrival) → (d ≡ receiveOf (a .t1) (a .port) (a .frame .now) (a .arrival)) × Lawful (d .next)
+    d ≡ receiveOf (a .t1) (a .port) (a .frame .now) (a .arrival) → DonePromise (receiveOf (a .t1) (a .port) (a .frame .now) (a .arrival)) d
 lawful k d e = out _ _ e (receive-lawful _ _ _ _ (bytes k) (k .before .before .pre))
 
 returns : tie.Need-returns
@@ -84,7 +86,7 @@ receive-requires : tie.Need-receive-requires
 receive-requires c κs =
     let h = c .before .before in
     let f = h .before .before .before .before .before .before in
-    (start h .pre .ports-lawful _, read-in-range _ _ (bytes (read h .before .before)) (sym (read h .read .ensures) ∙ f .f .given .1))
+    (start h .pre .ports-lawful _, read-in-range _ _ (bytes (read h .before .before)) (sym (read h .read .ensures .answer) ∙ f .f .given .1))
 
 mul-after : tie.Need-mul-after
 mul-after c = omega (arith, index (c .before .before .before .before))
@@ -97,7 +99,7 @@ returns-2 c =
     let u = c .before in
     let r = u .before .before in
     let e = r .before in
-    lawful (e .before) _ (receive-read _ _ _ _ _ (e .before .port-refusal .ensures) _ (e .if1 .left) (sym (u .unread .given .1) ∙ r .read .ensures))
+    lawful (e .before) _ (receive-read _ _ _ _ _ (e .before .port-refusal .ensures) _ (e .if1 .left) (sym (u .unread .given .1) ∙ r .read .ensures .answer))
 
 returns-3 : tie.Need-returns-3
 unfolding receiveFieldsOf chosenOf
@@ -112,7 +114,7 @@ returns-3 c =
     (ap (storesPort (a .t1) i)
     (r .receive .ensures
     ∙ ap (λ (hop : ℕ). receivedOf (delayAt (a .t1) i) hop (f .f .given .0 .0) (record { 0 = a .arrival }) (portAt (a .t1 .ports) i)) (h .chosen-hop .ensures ∙ ap chosenHop (h .before .choice .ensures)))
-    ∙ receive-read _ _ _ _ _ (e .before .port-refusal .ensures) _ (e .if1 .left) (sym (f .f .given .1) ∙ read h .read .ensures))
+    ∙ receive-read _ _ _ _ _ (e .before .port-refusal .ensures) _ (e .if1 .left) (sym (f .f .given .1) ∙ read h .read .ensures .answer))
 
 pub receive-spec : {M : Type 1} → statement M
 receive-spec =

@@ -15,7 +15,7 @@ use Rattle.bridge.specs.Send.{sendingAt}
 use Rattle.table.proofs.CheckLaws.{Ready, send-ready}
 use Rattle.table.proofs.TableLaws.{chosen-lawful}
 use Rattle.bridge.proofs.StateLaws.{send-refused, send-untouched, send-stores, send-fills, chosen-number}
-use Rattle.bridge.proofs.Keeps.{Next, send-lawful}
+use Rattle.bridge.proofs.PromiseLaws.{send-out}
 use Rattle.bridge.proofs.send.Statement.{statement}
 use Rattle.bridge.proofs.send.Tie as tie
 
@@ -25,10 +25,9 @@ send-refusal-requires c κs = search needs
 returns : tie.Need-returns
 returns c =
     let k = c .before in
-    let s = k .before .before in (
-      send-refused _ _ _ (s .args .out .now) _ (k .send-refusal .ensures) (c .if1 .taken),
-      (send-untouched _ _ _ (s .args .out .now) _ (k .send-refusal .ensures) (c .if1 .taken), s .pre),
-    )
+    let s = k .before .before in
+    send-out _ _ _ (s .args .out .now) _ _ (send-refused _ _ _ (s .args .out .now) _ (k .send-refusal .ensures) (c .if1 .taken))
+    (send-untouched _ _ _ (s .args .out .now) _ (k .send-refusal .ensures) (c .if1 .taken)) (s .pre)
 
 -- the start of a call that was not refused; then a port with a link, a local time in range, and room
 abbrev start : tie.After-ports → tie.Start
@@ -90,13 +89,10 @@ returns-2 c =
     let picked = m .samples-of-choice .ensures ∙ ap (λ (x : Candidate). samplesOfChoice x (a .t1 .clock) (a .t1 .ports)) (m .before .choice .ensures) in
     let same : sending ≡ sendingAt (a .t1) (a .port - 1) (record { 0 = a .t }) =
     λ i. sendingOf (m .before .choice .ensures i) (picked i) (a .t1 .setup .mac) (a .t1 .setup .back) (record { 0 = a .t }) (portAt (a .t1 .ports) (a .port - 1)) in
-    let stored = send-stores _ _ _ (a .out .now) _ (k .before .send-refusal .ensures) (d .send .result) (k .if1 .left) (d .send .ensures .0 ∙ ap (λ (x : Sending). sendingDone x (portAt (a .t1 .ports) (a .port - 1))) same) in (
-      stored,
-      (
-        d .send .ensures .1 ∙ ap (λ (x : Sending). sendingBytes x (a .out .now)) same ∙ send-fills _ _ _ (a .out .now) _ (k .before .send-refusal .ensures) (k .if1 .left),
-        subst Next (sym stored) (send-lawful _ _ _ _ (s .pre)),
-      ),
-    )
+    let stored = send-stores _ _ _ (a .out .now) _ (k .before .send-refusal .ensures) (d .send .result) (k .if1 .left) (d .send .ensures .0 ∙ ap (λ (x : Sending). sendingDone x (portAt (a .t1 .ports) (a .port - 1))) same) in
+    send-out _ _ _ (a .out .now) _ _ stored
+    (d .send .ensures .1 ∙ ap (λ (x : Sending). sendingBytes x (a .out .now)) same ∙ send-fills _ _ _ (a .out .now) _ (k .before .send-refusal .ensures) (k .if1 .left))
+    (s .pre)
 
 pub send-spec : {M : Type 1} → statement M
 send-spec =

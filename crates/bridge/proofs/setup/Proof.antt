@@ -5,7 +5,8 @@ use lib.ListN.{length, length-map}
 use Rattle.bridge.specs.State.{answers}
 use Rattle.bridge.specs.Setup.{freshOf}
 use Rattle.bridge.proofs.StateLaws.{setup-done, setup-refused}
-use Rattle.bridge.proofs.Keeps.{out, setup-lawful}
+use Rattle.bridge.proofs.Keeps.{setup-lawful}
+use Rattle.bridge.proofs.PromiseLaws.{out}
 use Rattle.bridge.proofs.setup.Statement.{statement}
 use Rattle.bridge.proofs.setup.Tie as tie
 

@@ -3,7 +3,7 @@ use mathlib.Core.Path.{_≡_, ap, _∙_}
 use Rattle.bridge.specs.Setup.{setupOf}
 use Rattle.bridge.specs.Links.{linksOf}
 use Rattle.bridge.specs.declared.Done.{Done}
-use Rattle.bridge.specs.declared.Linked.{Linked}
+use Rattle.bridge.proofs.PromiseLaws.{done-is}
 use Rattle.capture.specs.Capture.{startOf, bothLinked}
 use borrow.Author.Needs.{needs}
 use Rattle.capture.proofs.start.Statement.{statement}
@@ -15,8 +15,8 @@ returns c =
     let l = c .before in
     let u = l .before .before in
     let m = u .before in
-    let set = u .setup .ensures .0 ∙ ap setupOf (m .plain-setup .ensures) in
-    (ap (λ (x : Linked). x .next) (l .links .ensures .0 ∙ ap (λ (x : Done). linksOf (x .next) bothLinked) set), l .links .ensures .1)
+    let set = done-is (u .setup .ensures) ∙ ap setupOf (m .plain-setup .ensures) in
+    (l .links .ensures .next ∙ ap (λ (x : Done). linksOf (x .next) bothLinked .next) set, l .links .ensures .lawful)
 
 pub start-spec : {M : Type 1} → statement M
 start-spec = tie.close (tie.spec (λ c κs. search needs) (λ c κs. search needs) (λ c κs. search needs) returns)

@@ -12,7 +12,7 @@ returns : tie.Need-returns
 unfolding setupFits
 returns c =
     let u = c .before in
-    (ap (λ (x : Done). x .next) (u .setup .ensures .0 ∙ ap setupOf (u .before .plain-setup .ensures) ∙ sym (setup-refused noSetup refl)), u .setup .ensures .1)
+    (u .setup .ensures .next ∙ ap (λ (x : Done). x .next) (ap setupOf (u .before .plain-setup .ensures) ∙ sym (setup-refused noSetup refl)), u .setup .ensures .lawful)
 
 pub start-spec : {M : Type 1} → statement M
 start-spec = tie.close (tie.spec (λ c κs. search needs) (λ c κs. search needs) returns)

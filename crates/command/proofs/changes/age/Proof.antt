@@ -1,4 +1,5 @@
 -- What Age answers.
+use Rattle.bridge.proofs.PromiseLaws.{done-is}
 use borrow.Author.Needs.{needs}
 use Rattle.command.proofs.changes.age.Statement.{statement}
 use Rattle.command.proofs.changes.age.Tie as tie
@@ -11,4 +12,4 @@ age-spec =
     (λ c κs. search needs)
     (λ c κs. search needs)
     (λ c. search needs)
-    (λ c. rw (← c .before .before .before .before .age .ensures .0) (c .before .before .done .ensures)))
+    (λ c. rw (← done-is (c .before .before .before .before .age .ensures)) (c .before .before .done .ensures)))

@@ -1,5 +1,6 @@
 -- What Links answers.
 use mathlib.Core.Path.{refl}
+use Rattle.bridge.proofs.PromiseLaws.{links-is}
 use borrow.Author.Needs.{needs}
 use Rattle.command.proofs.changes.links.Statement.{statement}
 use Rattle.command.proofs.changes.links.Tie as tie
@@ -9,7 +10,7 @@ returns c =
     let l = c .before .before in
     let n = l .before .before .before in
     let b = n .before in
-    rw (← b .byte .ensures, ← n .links .ensures .0) (record { state = refl; prints = l .link-count .ensures; lawful = n .links .ensures .1 })
+    rw (← b .byte .ensures, ← links-is (n .links .ensures)) (record { state = refl; prints = l .link-count .ensures; lawful = n .links .ensures .lawful })
 
 pub links-spec : {M : Type 1} → statement M
 links-spec = tie.close (tie.spec (λ c κs. search needs) (λ c κs. search needs) (λ c κs. search needs) (λ c. search needs) returns)

@@ -1,4 +1,5 @@
 -- What Own clock answers.
+use Rattle.bridge.proofs.PromiseLaws.{done-is}
 use borrow.Author.Needs.{needs}
 use Rattle.command.proofs.changes.own_clock.Statement.{statement}
 use Rattle.command.proofs.changes.own_clock.Tie as tie
@@ -14,4 +15,4 @@ own-clock-spec =
     (λ c κs. search needs)
     (λ c κs. search needs)
     (λ c. search needs)
-    (λ c. rw (← c .before .before .before .before .before .before .before .before .byte .ensures, ← c .before .before .before .before .own-clock .ensures .0) (c .before .before .done .ensures)))
+    (λ c. rw (← c .before .before .before .before .before .before .before .before .byte .ensures, ← done-is (c .before .before .before .before .own-clock .ensures)) (c .before .before .done .ensures)))

@@ -2,6 +2,7 @@
 use mathlib.Core.Path.{sym}
 use native.Mathlib.Omega.{arith}
 use lib.Seq.{length-take-le}
+use Rattle.bridge.proofs.PromiseLaws.{done-is}
 use borrow.Author.Needs.{needs}
 use Rattle.command.proofs.changes.receive.Statement.{statement}
 use Rattle.command.proofs.changes.receive.Tie as tie
@@ -12,7 +13,7 @@ returns c =
     let r = d .before .before in
     let s = r .before .before .before .before in
     let b = s .before in
-    rw (← b .byte .ensures, ← s .size .ensures, ← r .receive .ensures .0) (d .done .ensures)
+    rw (← b .byte .ensures, ← s .size .ensures, ← done-is (r .receive .ensures)) (d .done .ensures)
 
 pub receive-spec : {M : Type 1} → statement M
 receive-spec =

@@ -1,6 +1,7 @@
 -- What Setup answers.
 use mathlib.Core.Path.{ap, _∙_}
 use Rattle.bridge.specs.Setup.{setupOf}
+use Rattle.bridge.proofs.PromiseLaws.{done-is}
 use borrow.Author.Needs.{needs}
 use Rattle.command.proofs.changes.setup.Statement.{statement}
 use Rattle.command.proofs.changes.setup.Tie as tie
@@ -15,4 +16,4 @@ setup-spec =
     (λ c. search needs)
     (λ c.
     let s = c .before .before .before .before in
-    rw (← s .setup .ensures .0 ∙ ap setupOf (s .before .given .ensures)) (c .before .before .done .ensures)))
+    rw (← done-is (s .setup .ensures) ∙ ap setupOf (s .before .given .ensures)) (c .before .before .done .ensures)))

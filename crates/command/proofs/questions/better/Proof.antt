@@ -21,7 +21,7 @@ part-better-end c =
 
 only-bytes-requires : tie.Need-only-bytes-requires
 only-bytes-requires c κs =
-    (omega (arith, better-short (c .better .result) _ _ (c .better .ensures)), c .before .before .before .before .before .before .before .before .before .pre .1)
+    (omega (arith, better-short (c .better .result) _ _ (c .better .ensures .part)), c .before .before .before .before .before .before .before .before .before .pre .1)
 
 returns : tie.Need-returns
 returns c =
@@ -29,7 +29,7 @@ returns c =
     let m = r .before .before .before .before .before .before in
     let n = m .before in
     as-prints
-    (rw (add-sub-cancel-left (n .size .result) (m .size2 .result), n .size .ensures, m .size2 .ensures) at (better-text (r .better .result) _ _ (r .better .ensures)))
+    (rw (add-sub-cancel-left (n .size .result) (m .size2 .result), n .size .ensures, m .size2 .ensures) at (better-text (r .better .result) _ _ (r .better .ensures .part)))
     (c .before .before .only-bytes .ensures)
 
 pub better-spec : {M : Type 1} → statement M

@@ -1,6 +1,5 @@
 -- What is shown of the choice.
-use mathlib.Core.Path.{ap, _∙_}
-use Rattle.choice.specs.Choose.{shownPort, shownHop}
+use mathlib.Core.Path.{_∙_}
 use Rattle.columns.specs.Columns.{line2}
 use Rattle.answer.proofs.AnswerLaws.{as-prints}
 use borrow.Author.Needs.{needs}
@@ -12,7 +11,7 @@ returns c =
     let h = c .before .before .before .before in
     let p = h .before in
     let d = p .before in
-    as-prints (λ i. line2 ((p .shown-port .ensures ∙ ap shownPort (d .chosen .ensures)) i) ((h .shown-hop .ensures ∙ ap shownHop (d .chosen .ensures)) i))
+    as-prints (λ i. line2 ((p .shown-port .ensures ∙ d .chosen .ensures .port) i) ((h .shown-hop .ensures ∙ d .chosen .ensures .hop) i))
     (c .before .before .two .ensures)
 
 pub chosen-spec : {M : Type 1} → statement M

@@ -12,6 +12,6 @@ drift-spec =
     (tie.spec
     (λ c κs. search needs)
     (λ c κs. search needs)
-    (λ c κs. (subst IsNumber (sym (c .before .drift .ensures)) (drift-number (c .before .before .before .before .args .b) _), c .before .before .before .before .pre .1))
+    (λ c κs. (subst IsNumber (sym (c .before .drift .ensures .answer)) (drift-number (c .before .before .before .before .args .b) _), c .before .before .before .before .pre .1))
     (λ c. search needs)
-    (λ c. rw (← c .before .before .before .before .before .byte .ensures, ← c .before .before .before .before .drift .ensures) (c .before .before .rate .ensures)))
+    (λ c. rw (← c .before .before .before .before .before .byte .ensures, ← c .before .before .before .before .drift .ensures .answer) (c .before .before .rate .ensures)))

@@ -16,4 +16,4 @@ read-spec =
     (λ c κs. search needs)
     (λ c κs. search needs)
     (λ c. search needs)
-    (λ c. rw (← c .before .before .before .before .before .before .before .size .ensures, ← c .before .before .before .before .read .ensures) (c .before .before .reading .ensures)))
+    (λ c. rw (← c .before .before .before .before .before .before .before .size .ensures, ← c .before .before .before .before .read .ensures .answer) (c .before .before .reading .ensures)))

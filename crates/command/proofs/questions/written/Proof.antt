@@ -11,4 +11,4 @@ written-spec =
     (λ c κs. search needs)
     (λ c. search needs)
     (λ c. search needs)
-    (λ c. rw (← c .before .before .before .before .before .before .before .write .ensures .0, ← c .before .before .before .before .before .before .before .write .ensures .1) (c .before .before .with-bytes .ensures)))
+    (λ c. rw (← c .before .before .before .before .before .before .before .write .ensures .answer, ← c .before .before .before .before .before .before .before .write .ensures .bytes) (c .before .before .with-bytes .ensures)))

@@ -62,13 +62,13 @@ part-result-end-3 : tie.Need-part-result-end-3
 part-result-end-3 c = omega (arith, second-sized _ _ (sym (c .enum-told3 .given .1) ∙ won (c .before .before)))
 
 returns : tie.Need-returns
-returns c = part (c .before .before .before) (c .before .enum-told .given .1)
+returns c = record { part = part (c .before .before .before) (c .before .enum-told .given .1) }
 
 returns-2 : tie.Need-returns-2
-returns-2 c = part (c .before .before .before) (c .before .enum-told2 .given .1)
+returns-2 c = record { part = part (c .before .before .before) (c .before .enum-told2 .given .1) }
 
 returns-3 : tie.Need-returns-3
-returns-3 c = part (c .before .before .before) (c .before .enum-told3 .given .1)
+returns-3 c = record { part = part (c .before .before .before) (c .before .enum-told3 .given .1) }
 
 pub better-spec : {M : Type 1} → statement M
 better-spec =

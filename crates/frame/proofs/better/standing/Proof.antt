@@ -9,7 +9,7 @@ use Rattle.frame.proofs.better.standing.Tie as tie
 
 -- what was read
 read-as : (c : tie.After-f) → Frame (c .f .given .0 .0) ≡ readOf (c .before .before .before .before .args .frame .now)
-read-as c = sym (c .f .given .1) ∙ c .before .before .read .ensures
+read-as c = sym (c .f .given .1) ∙ c .before .before .read .ensures .answer
 
 read-requires : tie.Need-read-requires
 read-requires c κs = search needs
@@ -24,7 +24,7 @@ returns : tie.Need-returns
 returns c = last-loses _ _ (read-as (c .before .before .before)) (c .if1 .taken)
 
 returns-2 : tie.Need-returns-2
-returns-2 c = refused-loses _ _ (sym (c .enum-told .given .1) ∙ c .before .before .read .ensures)
+returns-2 c = refused-loses _ _ (sym (c .enum-told .given .1) ∙ c .before .before .read .ensures .answer)
 
 returns-3 : tie.Need-returns-3
 returns-3 c = other-stands _ _ (read-as (c .before .before .before .before)) (c .before .if1 .left)

@@ -8,7 +8,7 @@ use Rattle.frame.specs.Frame.{fieldsOf}
 use Rattle.frame.specs.Read.{readRefusal}
 use Rattle.frame.specs.declared.Fields.{Fields}
 use Rattle.frame.specs.declared.Reading.the-variants.{Frame}
-use Rattle.frame.proofs.FrameLaws.{short, by-rows, refused, framed}
+use Rattle.frame.proofs.FrameLaws.{short, by-rows, refused, framed, promised}
 use Rattle.frame.proofs.read.read.Statement.{statement}
 use Rattle.frame.proofs.read.read.Tie as tie
 
@@ -20,7 +20,7 @@ refusal : (c : tie.After-constants-refusal) → c .constants-refusal .result ≡
 refusal c = c .constants-refusal .ensures ∙ by-rows (frame c) (c .before .parts .result) (c .before .before .if1 .left) (c .before .parts .ensures .0)
 
 returns : tie.Need-returns
-returns c = let s = c .before .before .args .frame .now in refused 4 s (short s (c .if1 .taken)) (λ z. omega arith)
+returns c = let s = c .before .before .args .frame .now in promised s _ (refused 4 s (short s (c .if1 .taken)) (λ z. omega arith))
 
 parts-requires : tie.Need-parts-requires
 parts-requires c κs = search needs
@@ -29,7 +29,7 @@ constants-refusal-requires : tie.Need-constants-refusal-requires
 constants-refusal-requires c κs = search needs
 
 returns-2 : tie.Need-returns-2
-returns-2 c = refused (c .before .constants-refusal .result) (frame (c .before)) (refusal (c .before)) (c .if2 .taken)
+returns-2 c = promised (frame (c .before)) _ (refused (c .before .constants-refusal .result) (frame (c .before)) (refusal (c .before)) (c .if2 .taken))
 
 fields-requires : tie.Need-fields-requires
 fields-requires c κs = search needs
@@ -37,8 +37,9 @@ fields-requires c κs = search needs
 returns-3 : tie.Need-returns-3
 returns-3 c =
     let d = c .before .before in
-    ap (λ (f : Fields). Frame f) (c .fields .ensures ∙ ap fieldsOf (d .before .parts .ensures .0))
-    ∙ framed (d .constants-refusal .result) (frame d) (refusal d) (c .before .if2 .left)
+    promised (frame d) _
+    (ap (λ (f : Fields). Frame f) (c .fields .ensures ∙ ap fieldsOf (d .before .parts .ensures .0))
+    ∙ framed (d .constants-refusal .result) (frame d) (refusal d) (c .before .if2 .left))
 
 pub read-spec : {M : Type 1} → statement M
 read-spec =

@@ -24,13 +24,13 @@ returns c =
     let t = p .before .before in
     let n = t .before in
     let a = n .before .before .args in
-    (n .write-refusal .ensures, p .put .ensures ∙ filled (a .f) _ (a .out .now) (n .write-refusal .ensures) (t .if1 .taken))
+    record { answer = n .write-refusal .ensures; bytes = p .put .ensures ∙ filled (a .f) _ (a .out .now) (n .write-refusal .ensures) (t .if1 .taken) }
 
 returns-2 : tie.Need-returns-2
 returns-2 c =
     let a = c .before .before .before .args in
     let n = c .before .write-refusal in
-    (n .ensures, untouched (a .f) (n .result) (a .out .now) (n .ensures) (c .if1 .left))
+    record { answer = n .ensures; bytes = untouched (a .f) (n .result) (a .out .now) (n .ensures) (c .if1 .left) }
 
 pub write-spec : {M : Type 1} → statement M
 write-spec = tie.close (tie.spec write-refusal-requires put-requires same-length returns returns-2)
