@@ -5,7 +5,7 @@ use mathlib.Core.List.{List}
 use Rattle.bridge.specs.State.{Lawful}
 use Rattle.bridge.specs.declared.Bridge.{Bridge}
 use Rattle.bridge.specs.declared.Done.{Done}
-use Rattle.refusals.specs.Refusals as refusal
+use Rattle.refusals.specs.Refusals.{badLine}
 use Rattle.columns.specs.Columns.{line1, Prints}
 use Rattle.answer.specs.declared.Answered.{Answered}
 
@@ -18,10 +18,10 @@ says b t = record { next = b; text = t }
 
 -- a line that has not the form of one
 abbrev pub badText : List ℕ
-badText = line1 refusal.badLine
+badText = line1 badLine
 
-abbrev pub badLine : Bridge → Answer
-badLine b = says b badText
+abbrev pub refusedLine : Bridge → Answer
+refusedLine b = says b badText
 
 -- a call that answers a number
 abbrev pub doneSays : Done → Answer

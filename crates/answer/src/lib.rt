@@ -3,7 +3,7 @@ ghost use Prim.Native.Nat.{_≤_};
 ghost use lib.ListN.{length};
 ghost use Rattle.bridge.specs.State.{Lawful};
 ghost use Rattle.columns.specs.Columns.{longestAnswer};
-ghost use Rattle.answer.specs.Answer.{badLine, doneSays, Says};
+ghost use Rattle.answer.specs.Answer.{refusedLine, doneSays, Says};
 use bridge::Bridge;
 use bridge::Done;
 
@@ -17,7 +17,7 @@ pub struct Answered {
 pub fn refused(b: Bridge, out: &mut [u8]) -> Answered
     requires { ⌜ Lawful b ⌝ }
     requires { ⌜ longestAnswer ≤ length (now out) ⌝ }
-    ensures { λ r. ⌜ Says (badLine b) r (now (out .entry)) (now (out .exit)) ⌝ }
+    ensures { λ r. ⌜ Says (refusedLine b) r (now (out .entry)) (now (out .exit)) ⌝ }
 {
     Answered {
         next: b,

@@ -11,7 +11,7 @@ use Rattle.refusals.specs.Refusals.{badLine}
 use Rattle.bridge.specs.declared.Bridge.{Bridge}
 use Rattle.bridge.specs.declared.Done.{Done}
 use Rattle.hex.specs.Digit.{allDigits}
-use Rattle.capture.specs.Capture.{lineDigits, isLine, listedAs, receivedOf, doneOf, listedOf}
+use Rattle.capture.specs.Capture.{lineDigits, isLine, listedAs, capturedOf, doneOf, listedOf}
 use Rattle.numbers.proofs.Branches.{if-true, if-false}
 
 pub line-length : (s : List ℕ) → isLine s ≡ true → length s ≡ lineDigits
@@ -27,7 +27,7 @@ module _ (b : Bridge) (s : List ℕ) where
   unfolding listedOf
   listed-bad e = if-false _ _ _ e
 
-  pub listed-done : (done : Done) → isLine s ≡ true → done ≡ receivedOf b s → doneOf done ≡ listedOf b s
+  pub listed-done : (done : Done) → isLine s ≡ true → done ≡ capturedOf b s → doneOf done ≡ listedOf b s
   unfolding listedOf
   listed-done done e d = ap doneOf d ∙ if-true _ _ _ e
 

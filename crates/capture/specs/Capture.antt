@@ -57,11 +57,11 @@ arrivalBytes = 6
 abbrev pub framePlace : ℕ
 framePlace = 7
 
-abbrev pub receivedFrom : Bridge → List ℕ → Done
-receivedFrom b bytes = receiveOf b (getD bytes portPlace 0) (drop framePlace bytes) (numberAt bytes arrivalPlace arrivalBytes)
+abbrev pub capturedFrom : Bridge → List ℕ → Done
+capturedFrom b bytes = receiveOf b (getD bytes portPlace 0) (drop framePlace bytes) (numberAt bytes arrivalPlace arrivalBytes)
 
-abbrev pub receivedOf : Bridge → List ℕ → Done
-receivedOf b s = receivedFrom b (pairs s)
+abbrev pub capturedOf : Bridge → List ℕ → Done
+capturedOf b s = capturedFrom b (pairs s)
 
 -- a call's answer, with the clock that is chosen after it
 abbrev pub doneOf : Done → Answer
@@ -69,4 +69,4 @@ doneOf done = listedAs (done .next) (done .answer)
 
 -- a line is received, and a text that isn't one is refused
 unfoldable pub listedOf : Bridge → List ℕ → Answer
-listedOf b s = cond (isLine s) (doneOf (receivedOf b s)) (listedAs b badLine)
+listedOf b s = cond (isLine s) (doneOf (capturedOf b s)) (listedAs b badLine)

@@ -10,7 +10,8 @@ use Rattle.numbers.specs.Digits.{digits}
 use Rattle.numbers.proofs.Places.{length-digits}
 use Rattle.hex.specs.Print.{textOf, withByte}
 use Rattle.hex.proofs.PrintLaws.{with-byte, text-append, length-text}
-use Rattle.columns.specs.Columns.{newline, noBytesMark, mostBytes, longestAnswer, columnText, columnsText, columnRoom, room, bytesText, bytesLine, Prints}
+use Rattle.columns.specs.Columns.{mostBytes, longestAnswer, columnText, columnsText, columnRoom, room, bytesText, bytesLine, Prints}
+use Rattle.hex.specs.Character.{newline, noBytesMark}
 
 -- ---- the cases of a column and of bytes
 

@@ -3,17 +3,9 @@ use Prim.Native.Nat.{ℕ, zero, suc, _+_, _*_, _%_, _≤_}
 use mathlib.Core.Path.{_≡_}
 use mathlib.Core.List.{List, [], _∷_, _++_}
 use lib.ListN.{length, drop}
+use Rattle.hex.specs.Character.{space, newline, noBytesMark}
 use Rattle.numbers.specs.Digits.{digits}
 use Rattle.hex.specs.Print.{textOf}
-
-abbrev pub space : ℕ
-space = 32
-
-abbrev pub newline : ℕ
-newline = 10
-
-abbrev pub noBytesMark : ℕ
-noBytesMark = 45
 
 -- the most bytes on a line
 abbrev pub mostBytes : ℕ

@@ -23,11 +23,11 @@ use Rattle.bridge.specs.Links.{linksOf}
 use Rattle.bridge.specs.Drift.{driftAt}
 use Rattle.bridge.specs.declared.Bridge.{Bridge}
 use Rattle.columns.specs.Columns.{bytesLine}
-use Rattle.answer.specs.Answer.{says, badLine, doneSays}
+use Rattle.answer.specs.Answer.{says, refusedLine, doneSays}
 use Rattle.fields.specs.declared.Form.{Form}
 use Rattle.command.specs.Row.{letterL, letterT}
 use Rattle.command.specs.Argument.{numberIn, byteIn, sizeIn, untouched}
-use Rattle.command.specs.Answer.{linkedSays, sendSays, askedText, IsNumber, pieceOf, betterText, doneOf, asksBy, callOf, longestLine, isLine, noLetter, letterOf, formIn, answerOf, Reads}
+use Rattle.command.specs.Answer.{linkedSays, sendSays, askedText, IsNumber, pieceOf, betterText, doneOf, asksBy, callOf, longestLine, mayBeLine, noLetter, letterOf, formIn, answerOf, Reads}
 
 -- ---- a drift is a number
 
@@ -86,8 +86,8 @@ module _ (r a b : RefT (List ℕ)) (e : lies r ≡ betterPartOf a b) where
 
 -- ---- a line that has a letter and its form
 
-pub line-some : (s : List ℕ) → isLine s ≡ true → 0 < length s
-unfolding isLine
+pub line-some : (s : List ℕ) → mayBeLine s ≡ true → 0 < length s
+unfolding mayBeLine
 line-some [] e = absurd (true≢false (sym e))
 line-some (x ∷ s) e = omega arith
 
@@ -110,16 +110,16 @@ module _ (b : Bridge) (f : Form) (letter : ℕ) where
   call-done a l t = rw (a, ne-eqb _ _ l, ne-eqb _ _ t) refl
 
 -- what has no letter is a bad line
-none-call : (b : Bridge) (f : Form) → badLine b ≡ callOf noLetter b f
+none-call : (b : Bridge) (f : Form) → refusedLine b ≡ callOf noLetter b f
 unfolding callOf asksBy doneOf
 none-call b f = refl
 
 module _ (s : List ℕ) (f : Form) where
-  pub reads-none : isLine s ≡ false → Reads noLetter f s
+  pub reads-none : mayBeLine s ≡ false → Reads noLetter f s
   unfolding answerOf
   reads-none l b = sym (none-call b f) ∙ rw l refl
 
-  module _ (l : isLine s ≡ true) (e : f ≡ formIn s) where
+  module _ (l : mayBeLine s ≡ true) (e : f ≡ formIn s) where
     pub reads-bad : f .good ≡ false → Reads noLetter f s
     unfolding answerOf
     reads-bad g b = sym (none-call b f) ∙ rw (l, sym (ap (λ (x : Form). x .good) e) ∙ g) refl
@@ -129,6 +129,6 @@ module _ (s : List ℕ) (f : Form) where
     reads-call g b = ap (callOf (letterOf s) b) e ∙ rw (l, sym (ap (λ (x : Form). x .good) e) ∙ g) refl
 
 -- a text that is longer than any line is none
-pub answer-long : (b : Bridge) (s : List ℕ) → longestLine < length s → badLine b ≡ answerOf b s
-unfolding answerOf isLine
+pub answer-long : (b : Bridge) (s : List ℕ) → longestLine < length s → refusedLine b ≡ answerOf b s
+unfolding answerOf mayBeLine
 answer-long b s h = rw (ne-eqb (length s) 0 (λ e. omega arith), lt-leb (length s) longestLine h) refl

@@ -34,10 +34,11 @@ use Rattle.bridge.specs.declared.Done.{Done}
 use Rattle.bridge.specs.declared.Linked.{Linked}
 use Rattle.bridge.specs.declared.LinkCount.{LinkCount}
 use Rattle.bridge.specs.declared.LinkCount.the-variants.{Refused as beyond, Up}
-use Rattle.columns.specs.Columns.{space, newline, columnsText, bytesLine, line1, line2, lineWith}
+use Rattle.columns.specs.Columns.{columnsText, bytesLine, line1, line2, lineWith}
+use Rattle.hex.specs.Character.{space, newline}
 use Rattle.fields.specs.Form.{formOf}
 use Rattle.fields.specs.declared.Form.{Form}
-use Rattle.answer.specs.Answer.{Answer, says, badText, badLine, doneSays}
+use Rattle.answer.specs.Answer.{Answer, says, badText, refusedLine, doneSays}
 use Rattle.command.specs.Row.{letterS, letterL, letterO, letterR, letterA, letterC, letterT, letterD, letterF, letterW, letterB, rowOf}
 use Rattle.command.specs.Argument.{numberIn, byteIn, sizeIn, setupIn, fieldsIn, untouched}
 
@@ -144,8 +145,8 @@ abbrev pub longestLine : ℕ
 longestLine = 515
 
 -- there is a letter, and no more than any line has
-unfoldable pub isLine : List ℕ → Bool
-isLine s = cond (eqb (length s) 0) false (leb (length s) longestLine)
+unfoldable pub mayBeLine : List ℕ → Bool
+mayBeLine s = cond (eqb (length s) 0) false (leb (length s) longestLine)
 
 -- a letter that no call has
 abbrev pub noLetter : ℕ
@@ -159,7 +160,7 @@ abbrev pub formIn : List ℕ → Form
 formIn s = formOf (rowOf (letterOf s)) (drop 1 s)
 
 unfoldable pub answerOf : Bridge → List ℕ → Answer
-answerOf b s = cond (isLine s) (cond (formIn s .good) (callOf (letterOf s) b (formIn s)) (badLine b)) (badLine b)
+answerOf b s = cond (mayBeLine s) (cond (formIn s .good) (callOf (letterOf s) b (formIn s)) (refusedLine b)) (refusedLine b)
 
 -- a letter and what the fields say that lead to the line's answer
 abbrev pub Reads : ℕ → Form → List ℕ → Type 0

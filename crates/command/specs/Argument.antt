@@ -55,11 +55,11 @@ settingsIn f =
 
 -- ---- bytes: S and W have an address and a precedence first, W then an errorTime
 
-abbrev pub macIn : List ℕ → Mac
-macIn s = record { 0 = getD s 0 0; 1 = getD s 1 0; 2 = getD s 2 0; 3 = getD s 3 0; 4 = getD s 4 0; 5 = getD s 5 0 }
+abbrev pub macFrom : List ℕ → Mac
+macFrom s = record { 0 = getD s 0 0; 1 = getD s 1 0; 2 = getD s 2 0; 3 = getD s 3 0; 4 = getD s 4 0; 5 = getD s 5 0 }
 
-abbrev pub precedenceIn : List ℕ → Precedence
-precedenceIn s = record {
+abbrev pub precedenceFrom : List ℕ → Precedence
+precedenceFrom s = record {
   priority1 = getD s 6 0;
   source = getD s 7 0;
   variance = numberAt s 8 2;
@@ -71,8 +71,8 @@ precedenceIn s = record {
 unfoldable pub setupIn : Form → Setup
 setupIn f = record {
   n = byteIn f 0;
-  mac = macIn (f .bytes);
-  own = precedenceIn (f .bytes);
+  mac = macFrom (f .bytes);
+  own = precedenceFrom (f .bytes);
   capable = flagIn f 3;
   timeout = numberOr defaultTimeout f 4;
   back = numberOr defaultBack f 5;
@@ -85,8 +85,8 @@ errorIn s = record { 0 = numberAt s 19 4 }
 -- what W is to write
 unfoldable pub fieldsIn : Form → Fields
 fieldsIn f = record {
-  sa = macIn (f .bytes);
-  precedence = precedenceIn (f .bytes);
+  sa = macFrom (f .bytes);
+  precedence = precedenceFrom (f .bytes);
   hop = byteIn f 2;
   count = byteIn f 3;
   grand = record { 0 = numberIn f 4; 1 = numberIn f 5 };

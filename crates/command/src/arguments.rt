@@ -2,7 +2,7 @@
 ghost use mathlib.Core.Path.{_≡_};
 ghost use Prim.Native.Nat.{_<_};
 ghost use Rattle.fields.specs.Form.{mostFields};
-ghost use Rattle.command.specs.Argument.{byteIn, sizeIn, numberOr, settingIn, settingsIn, numbersIn, macIn, precedenceIn, setupIn, errorIn, fieldsIn};
+ghost use Rattle.command.specs.Argument.{byteIn, sizeIn, numberOr, settingIn, settingsIn, numbersIn, macFrom, precedenceFrom, setupIn, errorIn, fieldsIn};
 use choice::Precedence;
 use delay::DelaySetting;
 use fields::Form;
@@ -131,14 +131,14 @@ fn settings(form: Form) -> [Setting; 8]
 
 // The address at the start of the line's bytes.
 fn mac(b: [u8; 256]) -> Mac
-    ensures { λ r. ⌜ r ≡ macIn b ⌝ }
+    ensures { λ r. ⌜ r ≡ macFrom b ⌝ }
 {
     Mac(b[0], b[1], b[2], b[3], b[4], b[5])
 }
 
 // The precedence after it.
 fn precedence(b: [u8; 256]) -> Precedence
-    ensures { λ r. ⌜ r ≡ precedenceIn b ⌝ }
+    ensures { λ r. ⌜ r ≡ precedenceFrom b ⌝ }
 {
     Precedence {
         priority1: b[PRIORITY1],

@@ -3,7 +3,7 @@ ghost use mathlib.Core.Path.{_≡_};
 ghost use Prim.Native.Nat.{_≤_};
 ghost use lib.ListN.{length, take};
 ghost use Rattle.fields.specs.Field.{mostLength};
-ghost use Rattle.fields.specs.Form.{mostBytes};
+ghost use Rattle.fields.specs.Form.{bufferBytes};
 ghost use Rattle.columns.specs.Columns.{longestAnswer, Prints};
 ghost use Rattle.bridge.specs.State.{Lawful};
 ghost use Rattle.bridge.specs.Links.{linksOf};
@@ -50,7 +50,7 @@ pub fn links(b: Bridge, form: Form, out: &mut [u8]) -> Answered
 // Receive of a frame within the line's bytes.
 fn receive(b: Bridge, port: u8, n: usize, bytes: [u8; 256], arrival: u64) -> Done
     requires { ⌜ Lawful b ⌝ }
-    requires { ⌜ (n ≤ mostLength) × (length bytes ≡ mostBytes) ⌝ }
+    requires { ⌜ (n ≤ mostLength) × (length bytes ≡ bufferBytes) ⌝ }
     ensures { λ r. ⌜ r ≡ receiveOf b port (take n bytes) arrival ⌝ }
     ensures { λ r. ⌜ Lawful (r .next) ⌝ }
 {
@@ -60,7 +60,7 @@ fn receive(b: Bridge, port: u8, n: usize, bytes: [u8; 256], arrival: u64) -> Don
 // The letters whose call answers a number: `S n mac prec capable timeout back d1 .. d8`, `O count sec frac now`, `R port arrival frame`, `A now`; another has no call.
 pub fn done(b: Bridge, letter: u8, form: Form) -> Done
     requires { ⌜ Lawful b ⌝ }
-    requires { ⌜ length (form .bytes) ≡ mostBytes ⌝ }
+    requires { ⌜ length (form .bytes) ≡ bufferBytes ⌝ }
     ensures { λ r. ⌜ r ≡ doneOf letter b form ⌝ }
     ensures { λ r. ⌜ Lawful (r .next) ⌝ }
 {

@@ -9,10 +9,10 @@ ghost use Prim.Native.Nat.{_≤_};
 ghost use lib.ListN.{length};
 ghost use Rattle.bridge.specs.State.{Lawful};
 ghost use Rattle.bridge.specs.Setup.{noBridge};
-ghost use Rattle.fields.specs.Form.{mostBytes};
+ghost use Rattle.fields.specs.Form.{bufferBytes};
 ghost use Rattle.columns.specs.Columns.{longestAnswer, Prints};
 ghost use Rattle.answer.specs.Answer.{Says};
-ghost use Rattle.command.specs.Answer.{askedText, asksBy, isLine, answerOf, Reads};
+ghost use Rattle.command.specs.Answer.{askedText, asksBy, mayBeLine, answerOf, Reads};
 use answer::Answered;
 use bridge::Bridge;
 use fields::Form;
@@ -40,8 +40,8 @@ pub fn start() -> Bridge
 }
 
 // Whether there is a letter, and no more than any line has.
-fn is_line(text: &[u8]) -> bool
-    ensures { λ r. ⌜ r ≡ isLine (now (text .entry)) ⌝ }
+fn may_be_line(text: &[u8]) -> bool
+    ensures { λ r. ⌜ r ≡ mayBeLine (now (text .entry)) ⌝ }
 {
     if text.len() == 0 {
         return false;
@@ -66,7 +66,7 @@ fn asks(letter: u8) -> bool
 // What such a call prints.
 fn asked(b: Bridge, letter: u8, form: Form, out: &mut [u8]) -> usize
     requires { ⌜ Lawful b ⌝ }
-    requires { ⌜ length (form .bytes) ≡ mostBytes ⌝ }
+    requires { ⌜ length (form .bytes) ≡ bufferBytes ⌝ }
     requires { ⌜ longestAnswer ≤ length (now out) ⌝ }
     ensures { λ r. ⌜ Prints (askedText letter b form) r (now (out .entry)) (now (out .exit)) ⌝ }
 {
@@ -83,9 +83,9 @@ fn asked(b: Bridge, letter: u8, form: Form, out: &mut [u8]) -> usize
 // A line's letter, or none where it has not the form of a line, and what its fields say.
 fn read(text: &[u8]) -> Line
     ensures { λ r. ⌜ Reads (r .letter) (r .form) (now (text .entry)) ⌝ }
-    ensures { λ r. ⌜ length (r .form .bytes) ≡ mostBytes ⌝ }
+    ensures { λ r. ⌜ length (r .form .bytes) ≡ bufferBytes ⌝ }
 {
-    if !is_line(text) {
+    if !may_be_line(text) {
         return Line {
             letter: NO_LETTER,
             form: fields::read(rows::row(NO_LETTER), text),

@@ -11,7 +11,7 @@ ghost use Rattle.bridge.specs.State.{Lawful};
 ghost use Rattle.bridge.specs.Chosen.{chosenOf};
 ghost use Rattle.bridge.specs.Drift.{driftAt};
 ghost use Rattle.fields.specs.Field.{mostLength};
-ghost use Rattle.fields.specs.Form.{mostBytes};
+ghost use Rattle.fields.specs.Form.{bufferBytes};
 ghost use Rattle.columns.specs.Columns.{longestAnswer, lineWith, Prints};
 ghost use Rattle.command.specs.Argument.{byteIn, sizeIn, fieldsIn, untouched};
 ghost use Rattle.command.specs.Answer.{chosenText, IsNumber, driftText, fieldValues, readText, writeText, betterText};
@@ -160,7 +160,7 @@ fn reading(said: Reading, out: &mut [u8]) -> usize
 
 // `F frame`.
 pub fn read(form: Form, out: &mut [u8]) -> usize
-    requires { ⌜ length (form .bytes) ≡ mostBytes ⌝ }
+    requires { ⌜ length (form .bytes) ≡ bufferBytes ⌝ }
     requires { ⌜ longestAnswer ≤ length (now out) ⌝ }
     ensures { λ r. ⌜ Prints (readText (readOf (take (sizeIn form 0) (form .bytes)))) r (now (out .entry)) (now (out .exit)) ⌝ }
 {
@@ -192,7 +192,7 @@ pub fn write(form: Form, out: &mut [u8]) -> usize
 
 // `B a b`.
 pub fn better(form: Form, out: &mut [u8]) -> usize
-    requires { ⌜ length (form .bytes) ≡ mostBytes ⌝ }
+    requires { ⌜ length (form .bytes) ≡ bufferBytes ⌝ }
     requires { ⌜ longestAnswer ≤ length (now out) ⌝ }
     ensures { λ r. ⌜ Prints (betterText (take (sizeIn form 0) (form .bytes)) (take (sizeIn form 1) (drop (sizeIn form 0) (form .bytes)))) r (now (out .entry)) (now (out .exit)) ⌝ }
 {

@@ -12,7 +12,8 @@ use Rattle.hex.specs.Digit.{allDigits, worth}
 use Rattle.hex.specs.Search.{upTo, foundAt}
 use Rattle.hex.proofs.SearchLaws.{up-taken, found-within}
 use Rattle.fields.specs.Kind.{EXACTLY, BYTE, NUMBER-OR-DEFAULT, DELAY-OR-MEASURED, FLAG, LENGTH, BYTES}
-use Rattle.fields.specs.Field.{space, mostDigits, ruleOf, isMark, areDigits, noField, bytesField, numberField, ruledField, fieldOf, fieldAt}
+use Rattle.fields.specs.Field.{mostDigits, ruleOf, isMark, areDigits, noField, bytesField, numberField, ruledField, fieldOf, fieldAt}
+use Rattle.hex.specs.Character.{space}
 use Rattle.fields.specs.declared.field.Rule.{Rule}
 use Rattle.fields.specs.declared.field.Field.{Field}
 

@@ -13,7 +13,7 @@ use Rattle.hex.specs.Digit.{pairs}
 use Rattle.hex.proofs.SearchLaws.{up-taken, found-within}
 use Rattle.fields.specs.Kind.{END}
 use Rattle.fields.specs.Field.{fieldAt}
-use Rattle.fields.specs.Form.{mostFields, mostBytes, kindsOf, Held, nothingHeld, formWith, walk, formOf}
+use Rattle.fields.specs.Form.{mostFields, bufferBytes, kindsOf, Taken, nothingTaken, formWith, walk, formOf}
 use Rattle.fields.specs.declared.field.Field.{Field}
 
 pub kinds-most : (row : List ℕ) → length (kindsOf row) ≤ mostFields
@@ -28,16 +28,16 @@ kinds-at row i h =
 kinds-next : (row : List ℕ) (i : ℕ) → i < length (kindsOf row) → drop i (kindsOf row) ≡ getD row i 0 ∷ drop (i + 1) (kindsOf row)
 kinds-next row i h = rw (add-one, ← kinds-at row i h) (drop-cons (kindsOf row) i 0 h)
 
-pub walk-all : (row text : List ℕ) → walk (kindsOf row) text 0 nothingHeld ≡ formOf row text
+pub walk-all : (row text : List ℕ) → walk (kindsOf row) text 0 nothingTaken ≡ formOf row text
 unfolding formOf
 walk-all row text = refl
 
-pub walk-end : (row rest : List ℕ) (i at : ℕ) (h : Held) → length (kindsOf row) ≤ i
+pub walk-end : (row rest : List ℕ) (i at : ℕ) (h : Taken) → length (kindsOf row) ≤ i
     → formWith (eqb (length rest - at) 0) h ≡ walk (drop i (kindsOf row)) (drop at rest) i h
 unfolding walk
 walk-end row rest i at h e = rw (drop-of-length-le (kindsOf row) e, length-drop)
 
-module _ (row rest : List ℕ) (i at : ℕ) (h : Held) (x : Field) (l : i < length (kindsOf row)) (e : x ≡ fieldAt (getD row i 0) (mostBytes - h .used) (drop at rest)) where
+module _ (row rest : List ℕ) (i at : ℕ) (h : Taken) (x : Field) (l : i < length (kindsOf row)) (e : x ≡ fieldAt (getD row i 0) (bufferBytes - h .used) (drop at rest)) where
   pub walk-bad : x .good ≡ false → formWith false h ≡ walk (drop i (kindsOf row)) (drop at rest) i h
   unfolding walk
   walk-bad g = rw (kinds-next row i l, ← e, g)

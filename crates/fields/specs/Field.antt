@@ -4,14 +4,12 @@ use mathlib.Core.Bool.{Bool, true, false, cond}
 use mathlib.Core.List.{List, [], _∷_}
 use lib.ListN.{length, getD}
 use lib.Dec.{leb, ltb, eqb}
+use Rattle.hex.specs.Character.{space, noBytesMark}
 use Rattle.hex.specs.Digit.{allDigits, worth}
 use Rattle.hex.specs.Search.{upTo}
 use Rattle.fields.specs.Kind.{BYTE, NUMBER-OR-DEFAULT, DELAY-OR-MEASURED, FLAG, LENGTH, BYTES, EXACTLY}
 use Rattle.fields.specs.declared.field.Rule.{Rule}
 use Rattle.fields.specs.declared.field.Field.{Field}
-
-abbrev pub space : ℕ
-space = 32
 
 -- ---- what a kind wants
 
@@ -21,9 +19,6 @@ defaultMark = 68
 
 abbrev pub measuredMark : ℕ
 measuredMark = 77
-
-abbrev pub noBytesMark : ℕ
-noBytesMark = 45
 
 abbrev pub noMark : ℕ
 noMark = space

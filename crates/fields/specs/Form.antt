@@ -15,25 +15,25 @@ use Rattle.fields.specs.declared.Form.{Form}
 abbrev pub mostFields : ℕ
 mostFields = 14
 
-abbrev pub mostBytes : ℕ
-mostBytes = 256
+abbrev pub bufferBytes : ℕ
+bufferBytes = 256
 
 -- the kinds before the row's end
 abbrev pub kindsOf : List ℕ → List ℕ
 kindsOf row = upTo END (take mostFields row)
 
 -- what is read so far: the fields' numbers and marks, and the bytes of all of them, of which so many are used
-pub record Held : Type 0 where
+pub record Taken : Type 0 where
   pub numbers : List ℕ
   pub marked : List Bool
   pub bytes : List ℕ
   pub used : ℕ
 
-abbrev pub nothingHeld : Held
-nothingHeld = record { numbers = replicate mostFields 0; marked = replicate mostFields false; bytes = replicate mostBytes 0; used = 0 }
+abbrev pub nothingTaken : Taken
+nothingTaken = record { numbers = replicate mostFields 0; marked = replicate mostFields false; bytes = replicate bufferBytes 0; used = 0 }
 
 -- with field i, whose bytes are `content`, put after those that are used
-abbrev pub stored : ℕ → Field → List ℕ → Held → Held
+abbrev pub stored : ℕ → Field → List ℕ → Taken → Taken
 stored i field content h = record {
   numbers = set (h .numbers) i (field .number);
   marked = set (h .marked) i (field .marked);
@@ -41,17 +41,17 @@ stored i field content h = record {
   used = h .used + field .size;
 }
 
-abbrev pub formWith : Bool → Held → Form
+abbrev pub formWith : Bool → Taken → Form
 formWith good h = record { good = good; numbers = h .numbers; marked = h .marked; bytes = h .bytes }
 
 -- the text from field i on, by the kinds from there on: a space and a field for each kind, and nothing more; it stops at the first that is not so
-unfoldable pub walk : List ℕ → List ℕ → ℕ → Held → Form
+unfoldable pub walk : List ℕ → List ℕ → ℕ → Taken → Form
 walk [] text i h = formWith (eqb (length text) 0) h
 walk (kind ∷ kinds) text i h =
-    let field = fieldAt kind (mostBytes - h .used) text in
+    let field = fieldAt kind (bufferBytes - h .used) text in
     let content = pairs (take (field .size * 2) (drop 1 text)) in
     cond (field .good) (walk kinds (drop (suc (field .width)) text) (i + 1) (stored i field content h)) (formWith false h)
 
 -- what `read` answers
 unfoldable pub formOf : List ℕ → List ℕ → Form
-formOf row text = walk (kindsOf row) text 0 nothingHeld
+formOf row text = walk (kindsOf row) text 0 nothingTaken

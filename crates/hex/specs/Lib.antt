@@ -1,3 +1,4 @@
+pub mod Character
 pub mod Digit
 pub mod Search
 pub mod Print

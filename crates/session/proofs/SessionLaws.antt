@@ -12,10 +12,11 @@ use lib.Seq.{drop-drop, take-add, take-suc-set, append-snoc, drop-cons, take-all
 use Rattle.refusals.specs.Refusals.{badLine as badNumber}
 use Rattle.bridge.specs.declared.Bridge.{Bridge}
 use Rattle.hex.specs.Search.{upTo, foundAt}
-use Rattle.answer.specs.Answer.{Answer, badLine}
+use Rattle.answer.specs.Answer.{Answer, refusedLine}
 use Rattle.capture.specs.Capture.{listedAs}
 use Rattle.command.specs.Answer.{longestLine}
-use Rattle.session.specs.Session.{newline, keptBytes, part, answerBy, Fed, left, saying, ended, fedOf, keptOf}
+use Rattle.session.specs.Session.{keptBytes, part, answerBy, Fed, left, saying, ended, fedOf, keptText}
+use Rattle.hex.specs.Character.{newline}
 use Rattle.session.specs.declared.Program.{Program}
 use Rattle.session.specs.declared.Program.the-variants.{Listing, Replay}
 use Rattle.hex.proofs.SearchLaws.{up-taken}
@@ -50,19 +51,19 @@ cut-twice (suc n) (c ∷ s) t = ap (λ (x : List ℕ). c ∷ x) (cut-twice n s t
 
 -- one byte more
 pub kept-next : (text more : List ℕ) (n i : ℕ) → n < length text → i < length more
-    → keptOf (take (n + 1) (set text n (getD more i 0))) (drop (i + 1) more) ≡ keptOf (take n text) (drop i more)
+    → keptText (take (n + 1) (set text n (getD more i 0))) (drop (i + 1) more) ≡ keptText (take n text) (drop i more)
 kept-next text more n i h k =
     let x = getD more i 0 in
     rw (add-one n, add-one i, take-suc-set text n x h, drop-cons more i 0 k) (ap (take keptBytes) (append-snoc (take n text) x (drop (suc i) more)))
 
 -- once all the room is taken
-pub kept-full : (text rest : List ℕ) (n : ℕ) → keptBytes ≤ n → n ≤ keptBytes → n ≤ length text → take n text ≡ keptOf (take n text) rest
+pub kept-full : (text rest : List ℕ) (n : ℕ) → keptBytes ≤ n → n ≤ keptBytes → n ≤ length text → take n text ≡ keptText (take n text) rest
 kept-full text rest n h k l =
     let e : n ≡ keptBytes = omega arith in
     sym (take-append-le keptBytes (take n text) rest (rw (length-take-le n text l) h) ∙ rw e (take-take keptBytes keptBytes text (omega arith)))
 
 -- or the whole line is kept
-pub kept-whole : (text more : List ℕ) (n i : ℕ) → n ≤ keptBytes → n ≤ length text → length more ≤ i → take n text ≡ keptOf (take n text) (drop i more)
+pub kept-whole : (text more : List ℕ) (n i : ℕ) → n ≤ keptBytes → n ≤ length text → length more ≤ i → take n text ≡ keptText (take n text) (drop i more)
 kept-whole text more n i k l h =
     sym (rw (drop-of-length-le more h, append-nil (take n text)) (take-all keptBytes (take n text) (rw (length-take-le n text l) k)))
 
@@ -181,7 +182,7 @@ module _ (p : Program) where
   -- is answered as bad by each program
   abbrev badBy : Program → Bridge → Answer
   badBy Listing b = listedAs b badNumber
-  badBy Replay b = badLine b
+  badBy Replay b = refusedLine b
 
   long-answer : (p : Program) (b : Bridge) (s : List ℕ) → longestLine < length s → badBy p b ≡ answerBy p b s
   long-answer Listing b s h = listed-long b s (omega arith)
@@ -200,7 +201,7 @@ module _ (p : Program) where
 
   -- and the line that a read cut off, of which the start was kept, ends where the whole does
   pub first-line : (b b₁ : Bridge) (line bytes kept t₁ : List ℕ) (from end : ℕ) → end ≡ foundAt newline bytes from → end < length bytes
-      → kept ≡ keptOf line (part bytes from end) → b₁ ≡ answerBy p b kept .next → t₁ ≡ answerBy p b kept .text
+      → kept ≡ keptText line (part bytes from end) → b₁ ≡ answerBy p b kept .next → t₁ ≡ answerBy p b kept .text
       → fedOf p b line (part bytes from (end + 1)) ≡ ended b₁ t₁
   first-line b b₁ line bytes kept t₁ from end e h k n t =
       let whole : answerBy p b (line ++ part bytes from end) ≡ answerBy p b kept = sym (ap (answerBy p b) k ∙ kept-answers b (line ++ part bytes from end)) in

@@ -8,7 +8,8 @@ use lib.ListN.{length, take, length-take}
 use lib.Seq.{take-all, take-take}
 use Rattle.bridge.specs.declared.Bridge.{Bridge}
 use Rattle.answer.specs.Answer.{Answer}
-use Rattle.session.specs.Session.{newline, keptBytes, part, answerBy, Fed, saying, fedOf, lineOf, Ready, Leaves, Turned}
+use Rattle.session.specs.Session.{keptBytes, part, answerBy, Fed, saying, fedOf, lineOf, Ready, Leaves, Turned}
+use Rattle.hex.specs.Character.{newline}
 use Rattle.session.specs.declared.Program.{Program}
 use Rattle.session.specs.declared.Progress.{Progress}
 use Rattle.session.specs.declared.Session.{Session}

@@ -5,6 +5,7 @@ use mathlib.Core.List.{List, [], _∷_, _++_}
 use Prim.Native.Nat.{ℕ, _+_, _-_, _<_, _≤_}
 use lib.Dec.{eqb}
 use lib.ListN.{length, take, drop}
+use Rattle.hex.specs.Character.{newline}
 use Rattle.bridge.specs.State.{Lawful}
 use Rattle.bridge.specs.Setup.{noBridge}
 use Rattle.bridge.specs.declared.Bridge.{Bridge}
@@ -15,10 +16,6 @@ use Rattle.session.specs.declared.Program.{Program}
 use Rattle.session.specs.declared.Program.the-variants.{Listing, Replay}
 use Rattle.session.specs.declared.Session.{Session}
 use Rattle.session.specs.declared.Progress.{Progress}
-
--- what ends a line
-abbrev pub newline : ℕ
-newline = 10
 
 -- what is kept of a line: one byte more than the longest line of any program has
 abbrev pub keptBytes : ℕ
@@ -69,8 +66,8 @@ fedOf p b line (c ∷ s) =
 -- ---- what is kept
 
 -- what is kept of a line once more of it is read
-abbrev pub keptOf : List ℕ → List ℕ → List ℕ
-keptOf was more = take keptBytes (was ++ more)
+abbrev pub keptText : List ℕ → List ℕ → List ℕ
+keptText was more = take keptBytes (was ++ more)
 
 -- the line as far as it is kept
 abbrev pub lineOf : Session → List ℕ

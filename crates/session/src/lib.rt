@@ -6,7 +6,7 @@ ghost use lib.ListN.{length, take};
 ghost use Rattle.bridge.specs.State.{Lawful};
 ghost use Rattle.columns.specs.Columns.{longestAnswer};
 ghost use Rattle.answer.specs.Answer.{Says};
-ghost use Rattle.session.specs.Session.{keptBytes, answerBy, startBy, part, ended, saying, fedOf, keptOf, lineOf, Ready, Within, Turned};
+ghost use Rattle.session.specs.Session.{keptBytes, answerBy, startBy, part, ended, saying, fedOf, keptText, lineOf, Ready, Within, Turned};
 use answer::Answered;
 use bridge::Bridge;
 use columns::LONGEST_ANSWER;
@@ -84,8 +84,8 @@ fn answer_line(program: Program, b: Bridge, text: &[u8], out: &mut [u8]) -> Answ
 // Keeps more of the line of which `len` bytes are kept, as far as there is room; how many are kept then.
 fn kept(text: &mut [u8; 516], len: usize, more: &[u8]) -> usize
     requires { ⌜ (len ≤ keptBytes) × (length (now text) ≡ keptBytes) ⌝ }
-    ensures { λ r. ⌜ r ≡ length (keptOf (take len (now (text .entry))) (now (more .entry))) ⌝ }
-    ensures { λ r. ⌜ take r (now (text .exit)) ≡ keptOf (take len (now (text .entry))) (now (more .entry)) ⌝ }
+    ensures { λ r. ⌜ r ≡ length (keptText (take len (now (text .entry))) (now (more .entry))) ⌝ }
+    ensures { λ r. ⌜ take r (now (text .exit)) ≡ keptText (take len (now (text .entry))) (now (more .entry)) ⌝ }
     ensures { λ _. ⌜ length (now (text .exit)) ≡ keptBytes ⌝ }
 {
     let mut n = len;

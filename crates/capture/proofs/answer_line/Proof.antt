@@ -6,7 +6,7 @@ use borrow.Author.Tests.{not-true, not-false}
 use lib.ListN.{take, drop, getD, length-drop}
 use lib.Seq.{take-all}
 use Rattle.bridge.specs.Receive.{receiveOf}
-use Rattle.capture.specs.Capture.{listedText, receivedFrom}
+use Rattle.capture.specs.Capture.{listedText, capturedFrom}
 use Rattle.bridge.proofs.PromiseLaws.{done-is}
 use Rattle.answer.proofs.AnswerLaws.{as-says, as-prints}
 use Rattle.capture.proofs.CaptureLaws.{line-length, listed-bad, listed-done}
@@ -40,7 +40,7 @@ returns-2 c =
     let b = s .args .b in
     let x = y .bytes .last .1 .0 in
     let whole : take 64 (drop 7 x) ≡ drop 7 x = take-all 64 (drop 7 x) (rw (length-drop 7 x) (omega (arith, y .bytes .kept .1 .0))) in
-    let done = done-is (r .receive .ensures) ∙ (λ j. receiveOf b (getD x 0 0) (whole j) (a .number-at .ensures .0 j)) ∙ ap (receivedFrom b) (y .bytes .ensures) in
+    let done = done-is (r .receive .ensures) ∙ (λ j. receiveOf b (getD x 0 0) (whole j) (a .number-at .ensures .0 j)) ∙ ap (capturedFrom b) (y .bytes .ensures) in
     as-says (listed-done b (s .args .text .now) (r .receive .result) (sym (l .is-line .ensures) ∙ not-false _ (i .if1 .left)) done)
     (record { state = refl; prints = as-prints (ap (listedText _) (h .chosen2 .ensures .answer)) (t .listed2 .ensures); lawful = r .receive .ensures .lawful })
 

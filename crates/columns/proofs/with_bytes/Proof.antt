@@ -4,7 +4,8 @@ use mathlib.Core.List.{List, [], _∷_}
 use Prim.Native.Nat.{ℕ}
 use native.Mathlib.Omega.{arith}
 use lib.ListN.{length}
-use Rattle.columns.specs.Columns.{space, columnsText, bytesLine}
+use Rattle.columns.specs.Columns.{columnsText, bytesLine}
+use Rattle.hex.specs.Character.{space}
 use Rattle.columns.proofs.ColumnLaws.{length-columns, bytes-most, puts-both, printed}
 use borrow.Author.Needs.{needs}
 use Rattle.columns.proofs.with_bytes.Statement.{statement}

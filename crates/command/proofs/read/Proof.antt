@@ -9,13 +9,13 @@ use borrow.Author.Tests.{not-true, not-false}
 use borrow.Author.Needs.{needs}
 use Rattle.fields.specs.Form.{formOf}
 use Rattle.fields.proofs.FormTheorem.{form-bytes}
-use Rattle.command.specs.Answer.{isLine, formIn}
+use Rattle.command.specs.Answer.{mayBeLine, formIn}
 use Rattle.command.proofs.AnswerLaws.{line-some, reads-none, reads-bad, reads-call}
 use Rattle.command.proofs.read.Statement.{statement}
 use Rattle.command.proofs.read.Tie as tie
 
-line : (c : tie.Else1) → isLine (c .before .before .before .args .text .now) ≡ true
-line c = sym (c .before .is-line .ensures) ∙ not-false _ (c .if1 .left)
+line : (c : tie.Else1) → mayBeLine (c .before .before .before .args .text .now) ≡ true
+line c = sym (c .before .may-be-line .ensures) ∙ not-false _ (c .if1 .left)
 
 form : (c : tie.After-read2) → c .read2 .result ≡ formIn (c .before .before .before .before .before .before .before .args .text .now)
 form c =
@@ -25,7 +25,7 @@ form c =
 returns : tie.Need-returns
 returns c =
     let i = c .before .before in
-    (reads-none _ _ (sym (i .before .is-line .ensures) ∙ not-true _ (i .if1 .taken)), form-bytes _ _ (c .read .ensures))
+    (reads-none _ _ (sym (i .before .may-be-line .ensures) ∙ not-true _ (i .if1 .taken)), form-bytes _ _ (c .read .ensures))
 
 returns-2 : tie.Need-returns-2
 returns-2 c =

@@ -9,7 +9,7 @@ use borrow.Rule.Slice.PartMut.{same-len-mid}
 use borrow.Author.Tests.{not-true, not-false}
 use borrow.Author.Needs.{needs}
 use Rattle.fields.specs.Field.{ruleOf}
-use Rattle.fields.specs.Form.{mostFields, mostBytes, kindsOf, Held, walk, formOf}
+use Rattle.fields.specs.Form.{mostFields, bufferBytes, kindsOf, Taken, walk, formOf}
 use Rattle.fields.proofs.FieldLaws.{mostOf, Within, within}
 use Rattle.fields.proofs.FormLaws.{kinds-most, walk-all, walk-end, walk-bad, walk-more}
 use Rattle.fields.proofs.read.Statement.{statement}
@@ -17,7 +17,7 @@ use Rattle.fields.proofs.read.Tie as tie
 
 abbrev Inv-loop : tie.InvT-loop
 Inv-loop rest row numbers₀ marked₀ bytes₀ used₀ at₀ i₀ count numbers marked bytes used at i =
-    (count ≡ length (kindsOf row)) × (count ≤ mostFields) × (length numbers ≡ mostFields) × (length marked ≡ mostFields) × (length bytes ≡ mostBytes) × (used ≤ mostBytes) × (at ≤ length rest)
+    (count ≡ length (kindsOf row)) × (count ≤ mostFields) × (length numbers ≡ mostFields) × (length marked ≡ mostFields) × (length bytes ≡ bufferBytes) × (used ≤ bufferBytes) × (at ≤ length rest)
     × (walk (drop i (kindsOf row)) (drop at rest) i (record { numbers = numbers; marked = marked; bytes = bytes; used = used }) ≡ formOf row rest)
 
 abbrev μ-loop : tie.MeasureT-loop
@@ -30,13 +30,13 @@ row c = c .before .before .before .before .args .t1
 abbrev rest : tie.At-loop Inv-loop μ-loop → List ℕ
 rest c = c .before .before .before .before .args .rest .now
 
-abbrev held : tie.At-loop Inv-loop μ-loop → Held
+abbrev held : tie.At-loop Inv-loop μ-loop → Taken
 held c = record { numbers = c .loop .numbers; marked = c .loop .marked; bytes = c .loop .bytes; used = c .loop .used }
 
 -- a good field lies within the rest of the line, and in the room that is left
 known : (c : tie.Else1 Inv-loop μ-loop) →
     let l = c .before .before .before .before in
-    Within (mostBytes - l .loop .used) (length (rest l) - l .loop .at) (mostOf (ruleOf (getD (row l) (l .loop .i) 0))) (c .before .before .at .result)
+    Within (bufferBytes - l .loop .used) (length (rest l) - l .loop .at) (mostOf (ruleOf (getD (row l) (l .loop .i) 0))) (c .before .before .at .result)
 known c = rw (← length-drop) (within _ _ _ (c .before .before .at .ensures) (not-false _ (c .if1 .left)))
 
 loop-holds : tie.Need-loop-holds Inv-loop μ-loop

@@ -6,14 +6,14 @@ use borrow.Author.Needs.{needs}
 use borrow.Author.Tests.{ltb-true, ltb-false}
 use lib.ListN.{length, take, drop, length-set}
 use lib.Seq.{length-take-le}
-use Rattle.session.specs.Session.{keptBytes, keptOf}
+use Rattle.session.specs.Session.{keptBytes, keptText}
 use Rattle.session.proofs.SessionLaws.{kept-next, kept-full, kept-whole}
 use Rattle.session.proofs.kept.Statement.{statement}
 use Rattle.session.proofs.kept.Tie as tie
 
 abbrev Inv-loop : tie.InvT-loop
 Inv-loop text₀ len more n₀ i₀ text n i =
-    (keptOf (take n text) (drop i more) ≡ keptOf (take len text₀) more) × (n ≤ keptBytes) × (length text ≡ keptBytes)
+    (keptText (take n text) (drop i more) ≡ keptText (take len text₀) more) × (n ≤ keptBytes) × (length text ≡ keptBytes)
 
 abbrev μ-loop : tie.MeasureT-loop
 μ-loop text₀ len more n₀ i₀ text n i = length more - i

@@ -6,7 +6,8 @@ use native.Mathlib.Omega.{arith}
 use borrow.Author.Needs.{needs}
 use lib.ListN.{length, take, drop, length-take}
 use lib.Seq.{take-at, length-take-le}
-use Rattle.session.specs.Session.{newline as newlineByte, keptBytes, Fed, lineOf}
+use Rattle.session.specs.Session.{keptBytes, Fed, lineOf}
+use Rattle.hex.specs.Character.{newline as newlineByte}
 use Rattle.hex.proofs.SearchLaws.{found-within}
 use Rattle.session.proofs.SessionLaws.{rest-fed, more-fed, first-line}
 use Rattle.session.proofs.turn.Statement.{statement}

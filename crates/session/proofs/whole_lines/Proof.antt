@@ -10,7 +10,8 @@ use lib.ListN.{length, take, drop, length-take, length-drop}
 use Rattle.bridge.specs.State.{Lawful}
 use Rattle.hex.specs.Search.{foundAt}
 use Rattle.columns.specs.Columns.{longestAnswer}
-use Rattle.session.specs.Session.{newline, part, saying, ended, fedOf, Within}
+use Rattle.session.specs.Session.{part, saying, ended, fedOf, Within}
+use Rattle.hex.specs.Character.{newline}
 use Rattle.hex.proofs.SearchLaws.{found-within}
 use Rattle.session.proofs.SessionLaws.{lines-none, lines-on, printed}
 use Rattle.session.proofs.whole_lines.Statement.{statement}

@@ -6,7 +6,8 @@ use lib.Seq.{drop-cons}
 use borrow.Author.Tests.{eq-eqb, ne-eqb}
 use borrow.Author.Needs.{needs}
 use Rattle.hex.proofs.SearchLaws.{found-within}
-use Rattle.fields.specs.Field.{space, fieldAt}
+use Rattle.fields.specs.Field.{fieldAt}
+use Rattle.hex.specs.Character.{space}
 use Rattle.fields.proofs.FieldLaws.{field-taken}
 use Rattle.fields.proofs.field.at.Statement.{statement}
 use Rattle.fields.proofs.field.at.Tie as tie
