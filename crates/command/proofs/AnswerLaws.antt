@@ -19,15 +19,12 @@ use Rattle.frame.specs.Better.{standingOf, winnerOf, precedenceBytes, lies, pie
 use Rattle.frame.specs.declared.Winner.{Winner}
 use Rattle.frame.specs.declared.Winner.the-variants.{Neither, First, Second}
 use Rattle.table.specs.Table.{samplesAt}
-use Rattle.bridge.specs.Links.{linksOf}
 use Rattle.bridge.specs.Drift.{driftAt}
 use Rattle.bridge.specs.declared.Bridge.{Bridge}
 use Rattle.columns.specs.Columns.{bytesLine}
-use Rattle.answer.specs.Answer.{says, refusedLine, doneSays}
+use Rattle.answer.specs.Answer.{refusedLine}
 use Rattle.fields.specs.declared.Form.{Form}
-use Rattle.command.specs.Row.{letterL, letterT}
-use Rattle.command.specs.Argument.{numberIn, byteIn, sizeIn, untouched}
-use Rattle.command.specs.Answer.{linkedSays, sendSays, askedText, IsNumber, pieceOf, betterText, doneOf, asksBy, callOf, longestLine, mayBeLine, noLetter, letterOf, formIn, answerOf, Reads}
+use Rattle.command.specs.Answer.{IsNumber, pieceOf, betterText, callOf, longestLine, mayBeLine, letterOf, formIn, answerOf}
 
 -- ---- a drift is a number
 
@@ -91,42 +88,9 @@ unfolding mayBeLine
 line-some [] e = absurd (true≢false (sym e))
 line-some (x ∷ s) e = omega arith
 
--- each letter's call
-module _ (b : Bridge) (f : Form) (letter : ℕ) where
-  pub call-asked : asksBy letter ≡ true → says b (askedText letter b f) ≡ callOf letter b f
-  unfolding callOf
-  call-asked a = rw a refl
-
-  pub call-links : letter ≡ letterL → linkedSays (linksOf b (byteIn f 0)) ≡ callOf letter b f
-  unfolding callOf asksBy
-  call-links e = rw e refl
-
-  pub call-send : letter ≡ letterT → sendSays b (byteIn f 0) (numberIn f 1) (untouched (sizeIn f 2)) ≡ callOf letter b f
-  unfolding callOf asksBy
-  call-send e = rw e refl
-
-  pub call-done : asksBy letter ≡ false → (letter ≡ letterL → ⊥) → (letter ≡ letterT → ⊥) → doneSays (doneOf letter b f) ≡ callOf letter b f
-  unfolding callOf
-  call-done a l t = rw (a, ne-eqb _ _ l, ne-eqb _ _ t) refl
-
--- what has no letter is a bad line
-none-call : (b : Bridge) (f : Form) → refusedLine b ≡ callOf noLetter b f
-unfolding callOf asksBy doneOf
-none-call b f = refl
-
-module _ (s : List ℕ) (f : Form) where
-  pub reads-none : mayBeLine s ≡ false → Reads noLetter f s
-  unfolding answerOf
-  reads-none l b = sym (none-call b f) ∙ rw l refl
-
-  module _ (l : mayBeLine s ≡ true) (e : f ≡ formIn s) where
-    pub reads-bad : f .good ≡ false → Reads noLetter f s
-    unfolding answerOf
-    reads-bad g b = sym (none-call b f) ∙ rw (l, sym (ap (λ (x : Form). x .good) e) ∙ g) refl
-
-    pub reads-call : f .good ≡ true → Reads (letterOf s) f s
-    unfolding answerOf
-    reads-call g b = ap (callOf (letterOf s) b) e ∙ rw (l, sym (ap (λ (x : Form). x .good) e) ∙ g) refl
+pub answer-call : (b : Bridge) (s : List ℕ) {f : Form} → mayBeLine s ≡ true → f ≡ formIn s → f .good ≡ true → callOf (letterOf s) b f ≡ answerOf b s
+unfolding answerOf
+answer-call b s l e g = ap (callOf (letterOf s) b) e ∙ rw (l, sym (ap (λ (x : Form). x .good) e) ∙ g) refl
 
 -- a text that is longer than any line is none
 pub answer-long : (b : Bridge) (s : List ℕ) → longestLine < length s → refusedLine b ≡ answerOf b s

@@ -1,12 +1,11 @@
 -- What a line is answered with.
 use Prim.Native.Nat.{ℕ}
-use mathlib.Core.Path.{_≡_}
-use mathlib.Core.Bool.{Bool, true, false, not, cond}
+use mathlib.Core.Bool.{Bool, false, not, cond}
 use mathlib.Core.List.{List, [], _∷_}
 use lib.ListN.{length, take, drop, getD}
 use lib.Dec.{T, leb, eqb}
 use lib.Ieee.{isNan, toBits, binary64}
-use Rattle.refusals.specs.Refusals.{done, badLine as badNumber}
+use Rattle.refusals.specs.Refusals.{done}
 use Rattle.numbers.specs.Digits.{digits}
 use Rattle.line.specs.Drift.{driftNo}
 use Rattle.line.specs.declared.Drift.{Drift}
@@ -115,27 +114,16 @@ askedText letter b f =
     (cond (eqb letter letterB) (betterText (take (sizeIn f 0) (f .bytes)) (take (sizeIn f 1) (drop (sizeIn f 0) (f .bytes))))
     badText))))
 
--- S, O, R, A: the next state and the number that is answered; another letter has no call
-unfoldable pub doneOf : ℕ → Bridge → Form → Done
-doneOf letter b f =
-    cond (eqb letter letterS) (setupOf (setupIn f))
-    (cond (eqb letter letterO) (ownClockOf b (byteIn f 0) (numberIn f 1) (numberIn f 2) (numberIn f 3))
-    (cond (eqb letter letterR) (receiveOf b (byteIn f 0) (take (sizeIn f 2) (f .bytes)) (numberIn f 1))
-    (cond (eqb letter letterA) (ageOf b (numberIn f 0))
-    (record { answer = badNumber; next = b }))))
-
--- C, D, F, W, B
-unfoldable pub asksBy : ℕ → Bool
-asksBy letter =
-    cond (eqb letter letterC) true (cond (eqb letter letterD) true (cond (eqb letter letterF) true (cond (eqb letter letterW) true (cond (eqb letter letterB) true false))))
-
--- these, L, T, and those that answer a number
+-- S, L, O, R, A, T, and those
 unfoldable pub callOf : ℕ → Bridge → Form → Answer
 callOf letter b f =
-    cond (asksBy letter) (says b (askedText letter b f))
+    cond (eqb letter letterS) (doneSays (setupOf (setupIn f)))
     (cond (eqb letter letterL) (linkedSays (linksOf b (byteIn f 0)))
+    (cond (eqb letter letterO) (doneSays (ownClockOf b (byteIn f 0) (numberIn f 1) (numberIn f 2) (numberIn f 3)))
+    (cond (eqb letter letterR) (doneSays (receiveOf b (byteIn f 0) (take (sizeIn f 2) (f .bytes)) (numberIn f 1)))
+    (cond (eqb letter letterA) (doneSays (ageOf b (numberIn f 0)))
     (cond (eqb letter letterT) (sendSays b (byteIn f 0) (numberIn f 1) (untouched (sizeIn f 2)))
-    (doneSays (doneOf letter b f))))
+    (says b (askedText letter b f)))))))
 
 -- ---- a line
 
@@ -148,10 +136,6 @@ longestLine = 515
 unfoldable pub mayBeLine : List ℕ → Bool
 mayBeLine s = cond (eqb (length s) 0) false (leb (length s) longestLine)
 
--- a letter that no call has
-abbrev pub noLetter : ℕ
-noLetter = 0
-
 -- the letter, and what the rest says by the letter's row
 abbrev pub letterOf : List ℕ → ℕ
 letterOf s = getD s 0 0
@@ -161,7 +145,3 @@ formIn s = formOf (rowOf (letterOf s)) (drop 1 s)
 
 unfoldable pub answerOf : Bridge → List ℕ → Answer
 answerOf b s = cond (mayBeLine s) (cond (formIn s .good) (callOf (letterOf s) b (formIn s)) (refusedLine b)) (refusedLine b)
-
--- a letter and what the fields say that lead to the line's answer
-abbrev pub Reads : ℕ → Form → List ℕ → Type 0
-Reads letter f s = (b : Bridge) → callOf letter b f ≡ answerOf b s

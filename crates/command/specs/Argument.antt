@@ -15,7 +15,6 @@ use Rattle.table.specs.declared.Setup.{Setup}
 use Rattle.bridge.specs.Setup.{defaultTimeout, defaultBack}
 use Rattle.fields.specs.Field.{mostFlag, mostLength}
 use Rattle.fields.specs.declared.Form.{Form}
-use Rattle.command.specs.declared.arguments.Numbers.{Numbers}
 
 -- ---- numbers
 
@@ -40,9 +39,6 @@ flagIn f i = eqb (numberIn f i) mostFlag
 
 abbrev pub numberOr : ℕ → Form → ℕ → ℕ
 numberOr default f i = cond (markedIn f i) default (numberIn f i)
-
-abbrev pub numbersIn : Form → Numbers
-numbersIn f = record { byte = byteIn f 0; size = sizeIn f 2; first = numberIn f 0; second = numberIn f 1; third = numberIn f 2; fourth = numberIn f 3 }
 
 -- ---- the ports' delays
 

@@ -2,7 +2,7 @@
 ghost use mathlib.Core.Path.{_≡_};
 ghost use Prim.Native.Nat.{_<_};
 ghost use Rattle.fields.specs.Form.{mostFields};
-ghost use Rattle.command.specs.Argument.{byteIn, sizeIn, numberOr, settingIn, settingsIn, numbersIn, macFrom, precedenceFrom, setupIn, errorIn, fieldsIn};
+ghost use Rattle.command.specs.Argument.{byteIn, sizeIn, numberOr, settingIn, settingsIn, macFrom, precedenceFrom, setupIn, errorIn, fieldsIn};
 use choice::Precedence;
 use delay::DelaySetting;
 use fields::Form;
@@ -61,30 +61,6 @@ pub fn size(form: Form, i: usize) -> usize
         return n as usize;
     }
     MOST_LENGTH as usize
-}
-
-// The numbers that the calls take: field 0 as a byte, field 2 as a length, and the first four.
-pub struct Numbers {
-    pub byte: u8,
-    pub size: usize,
-    pub first: u64,
-    pub second: u64,
-    pub third: u64,
-    pub fourth: u64,
-}
-
-// What the fields say as numbers.
-pub fn as_numbers(form: Form) -> Numbers
-    ensures { λ r. ⌜ r ≡ numbersIn form ⌝ }
-{
-    Numbers {
-        byte: byte(form, 0),
-        size: size(form, 2),
-        first: form.numbers[0],
-        second: form.numbers[1],
-        third: form.numbers[2],
-        fourth: form.numbers[3],
-    }
 }
 
 // Field i as a number, or the default.

@@ -6,20 +6,30 @@ ghost use Rattle.fields.specs.Field.{mostLength};
 ghost use Rattle.fields.specs.Form.{bufferBytes};
 ghost use Rattle.columns.specs.Columns.{longestAnswer, Prints};
 ghost use Rattle.bridge.specs.State.{Lawful};
+ghost use Rattle.bridge.specs.Setup.{setupOf};
 ghost use Rattle.bridge.specs.Links.{linksOf};
+ghost use Rattle.bridge.specs.Own.{ownClockOf};
 ghost use Rattle.bridge.specs.Receive.{receiveOf};
-ghost use Rattle.answer.specs.Answer.{Says};
-ghost use Rattle.command.specs.Argument.{numberIn, byteIn, sizeIn, untouched};
-ghost use Rattle.command.specs.Answer.{linkText, linkedSays, sendSays, doneOf};
+ghost use Rattle.bridge.specs.Age.{ageOf};
+ghost use Rattle.answer.specs.Answer.{doneSays, Says};
+ghost use Rattle.command.specs.Argument.{numberIn, byteIn, sizeIn, setupIn, untouched};
+ghost use Rattle.command.specs.Answer.{linkText, linkedSays, sendSays};
 use crate::arguments;
 use answer::Answered;
 use bridge::Bridge;
-use bridge::Done;
 use bridge::LinkCount;
 use fields::Form;
 
 // What an output holds before a call.
 pub const UNTOUCHED: u8 = 0xA5;
+
+// `S n mac prec capable timeout back d1 .. d8`.
+pub fn setup(form: Form, out: &mut [u8]) -> Answered
+    requires { ⌜ longestAnswer ≤ length (now out) ⌝ }
+    ensures { λ r. ⌜ Says (doneSays (setupOf (setupIn form))) r (now (out .entry)) (now (out .exit)) ⌝ }
+{
+    answer::done(bridge::setup(arguments::given(form)), out)
+}
 
 // Prints what Links answers.
 fn link_count(answer: LinkCount, out: &mut [u8]) -> usize
@@ -47,35 +57,39 @@ pub fn links(b: Bridge, form: Form, out: &mut [u8]) -> Answered
     }
 }
 
-// Receive of a frame within the line's bytes.
-fn receive(b: Bridge, port: u8, n: usize, bytes: [u8; 256], arrival: u64) -> Done
+// `O count sec frac now`.
+pub fn own_clock(b: Bridge, form: Form, out: &mut [u8]) -> Answered
     requires { ⌜ Lawful b ⌝ }
-    requires { ⌜ (n ≤ mostLength) × (length bytes ≡ bufferBytes) ⌝ }
-    ensures { λ r. ⌜ r ≡ receiveOf b port (take n bytes) arrival ⌝ }
-    ensures { λ r. ⌜ Lawful (r .next) ⌝ }
+    requires { ⌜ longestAnswer ≤ length (now out) ⌝ }
+    ensures { λ r. ⌜ Says (doneSays (ownClockOf b (byteIn form 0) (numberIn form 1) (numberIn form 2) (numberIn form 3))) r (now (out .entry)) (now (out .exit)) ⌝ }
 {
-    bridge::receive(b, port, &bytes[..n], arrival)
+    let count = arguments::byte(form, 0);
+    answer::done(
+        bridge::own_clock(b, count, form.numbers[1], form.numbers[2], form.numbers[3]),
+        out,
+    )
 }
 
-// The letters whose call answers a number: `S n mac prec capable timeout back d1 .. d8`, `O count sec frac now`, `R port arrival frame`, `A now`; another has no call.
-pub fn done(b: Bridge, letter: u8, form: Form) -> Done
+// `R port arrival frame`.
+pub fn receive(b: Bridge, form: Form, out: &mut [u8]) -> Answered
     requires { ⌜ Lawful b ⌝ }
     requires { ⌜ length (form .bytes) ≡ bufferBytes ⌝ }
-    ensures { λ r. ⌜ r ≡ doneOf letter b form ⌝ }
-    ensures { λ r. ⌜ Lawful (r .next) ⌝ }
+    requires { ⌜ longestAnswer ≤ length (now out) ⌝ }
+    ensures { λ r. ⌜ Says (doneSays (receiveOf b (byteIn form 0) (take (sizeIn form 2) (form .bytes)) (numberIn form 1))) r (now (out .entry)) (now (out .exit)) ⌝ }
 {
-    let n = arguments::as_numbers(form);
+    let port = arguments::byte(form, 0);
+    let n = arguments::size(form, 2);
     let bytes = form.bytes;
-    match letter {
-        b'S' => bridge::setup(arguments::given(form)),
-        b'O' => bridge::own_clock(b, n.byte, n.second, n.third, n.fourth),
-        b'R' => receive(b, n.byte, n.size, bytes, n.second),
-        b'A' => bridge::age(b, n.first),
-        _ => Done {
-            answer: refusals::BAD_LINE,
-            next: b,
-        },
-    }
+    answer::done(bridge::receive(b, port, &bytes[..n], form.numbers[1]), out)
+}
+
+// `A now`.
+pub fn age(b: Bridge, form: Form, out: &mut [u8]) -> Answered
+    requires { ⌜ Lawful b ⌝ }
+    requires { ⌜ longestAnswer ≤ length (now out) ⌝ }
+    ensures { λ r. ⌜ Says (doneSays (ageOf b (numberIn form 0))) r (now (out .entry)) (now (out .exit)) ⌝ }
+{
+    answer::done(bridge::age(b, form.numbers[0]), out)
 }
 
 // Send into an output of at most 128 bytes.

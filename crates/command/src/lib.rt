@@ -12,7 +12,7 @@ ghost use Rattle.bridge.specs.Setup.{noBridge};
 ghost use Rattle.fields.specs.Form.{bufferBytes};
 ghost use Rattle.columns.specs.Columns.{longestAnswer, Prints};
 ghost use Rattle.answer.specs.Answer.{Says};
-ghost use Rattle.command.specs.Answer.{askedText, asksBy, mayBeLine, answerOf, Reads};
+ghost use Rattle.command.specs.Answer.{askedText, callOf, mayBeLine, answerOf};
 use answer::Answered;
 use bridge::Bridge;
 use fields::Form;
@@ -20,15 +20,6 @@ use table::records;
 
 // The longest line that can be one: B with two frames of 128 bytes.
 pub const LONGEST_LINE: usize = 515;
-
-// A letter that no call has.
-const NO_LETTER: u8 = 0;
-
-// A line's letter, and what its fields say.
-struct Line {
-    letter: u8,
-    form: Form,
-}
 
 // The bridge before the first line: what a refused Setup hands back.
 pub fn start() -> Bridge
@@ -49,21 +40,7 @@ fn may_be_line(text: &[u8]) -> bool
     text.len() <= LONGEST_LINE
 }
 
-// Whether a letter's call leaves the state as it is.
-fn asks(letter: u8) -> bool
-    ensures { λ r. ⌜ r ≡ asksBy letter ⌝ }
-{
-    match letter {
-        b'C' => true,
-        b'D' => true,
-        b'F' => true,
-        b'W' => true,
-        b'B' => true,
-        _ => false,
-    }
-}
-
-// What such a call prints.
+// A letter whose call leaves the state as it is.
 fn asked(b: Bridge, letter: u8, form: Form, out: &mut [u8]) -> usize
     requires { ⌜ Lawful b ⌝ }
     requires { ⌜ length (form .bytes) ≡ bufferBytes ⌝ }
@@ -80,28 +57,24 @@ fn asked(b: Bridge, letter: u8, form: Form, out: &mut [u8]) -> usize
     }
 }
 
-// A line's letter, or none where it has not the form of a line, and what its fields say.
-fn read(text: &[u8]) -> Line
-    ensures { λ r. ⌜ Reads (r .letter) (r .form) (now (text .entry)) ⌝ }
-    ensures { λ r. ⌜ length (r .form .bytes) ≡ bufferBytes ⌝ }
+// The call of a letter, with what its fields say.
+fn call(b: Bridge, letter: u8, form: Form, out: &mut [u8]) -> Answered
+    requires { ⌜ Lawful b ⌝ }
+    requires { ⌜ length (form .bytes) ≡ bufferBytes ⌝ }
+    requires { ⌜ longestAnswer ≤ length (now out) ⌝ }
+    ensures { λ r. ⌜ Says (callOf letter b form) r (now (out .entry)) (now (out .exit)) ⌝ }
 {
-    if !may_be_line(text) {
-        return Line {
-            letter: NO_LETTER,
-            form: fields::read(rows::row(NO_LETTER), text),
-        };
-    }
-    let letter = text[0];
-    let form = fields::read(rows::row(letter), &text[1..]);
-    if !form.good {
-        return Line {
-            letter: NO_LETTER,
-            form: form,
-        };
-    }
-    Line {
-        letter: letter,
-        form: form,
+    match letter {
+        b'S' => changes::setup(form, out),
+        b'L' => changes::links(b, form, out),
+        b'O' => changes::own_clock(b, form, out),
+        b'R' => changes::receive(b, form, out),
+        b'A' => changes::age(b, form, out),
+        b'T' => changes::send(b, form, out),
+        _ => Answered {
+            next: b,
+            len: asked(b, letter, form, out),
+        },
     }
 }
 
@@ -111,18 +84,13 @@ pub fn answer_line(b: Bridge, text: &[u8], out: &mut [u8]) -> Answered
     requires { ⌜ longestAnswer ≤ length (now out) ⌝ }
     ensures { λ r. ⌜ Says (answerOf b (now (text .entry))) r (now (out .entry)) (now (out .exit)) ⌝ }
 {
-    let line = read(text);
-    let letter = line.letter;
-    let form = line.form;
-    if asks(letter) {
-        return Answered {
-            next: b,
-            len: asked(b, letter, form, out),
-        };
+    if !may_be_line(text) {
+        return answer::refused(b, out);
     }
-    match letter {
-        b'L' => changes::links(b, form, out),
-        b'T' => changes::send(b, form, out),
-        _ => answer::done(changes::done(b, letter, form), out),
+    let letter = text[0];
+    let form = fields::read(rows::row(letter), &text[1..]);
+    if !form.good {
+        return answer::refused(b, out);
     }
+    call(b, letter, form, out)
 }

@@ -1,37 +1,52 @@
--- By the letter.
-use mathlib.Core.Path.{refl, sym, ap, _∙_}
-use Rattle.answer.specs.Answer.{doneSays}
-use Rattle.answer.proofs.AnswerLaws.{as-says}
+-- By the line's length and its form.
+use mathlib.Core.Path.{_≡_, sym, _∙_}
+use mathlib.Core.Bool.{true}
+use Prim.Native.Nat.{_-_}
+use native.Mathlib.Omega.{arith}
+use lib.ListN.{length, drop, length-drop}
+use lib.Seq.{take-all}
+use borrow.Author.Tests.{not-true, not-false}
 use borrow.Author.Needs.{needs}
-use Rattle.command.proofs.AnswerLaws.{call-links, call-send, call-asked, call-done}
+use Rattle.fields.specs.Form.{formOf}
+use Rattle.fields.proofs.FormTheorem.{form-bytes}
+use Rattle.answer.proofs.AnswerLaws.{as-says}
+use Rattle.command.specs.Answer.{mayBeLine, formIn, answerOf}
+use Rattle.command.proofs.AnswerLaws.{line-some, answer-call}
 use Rattle.command.proofs.answer_line.Statement.{statement}
 use Rattle.command.proofs.answer_line.Tie as tie
 
-asked : tie.Need-returns
-asked c =
-    let a = c .before .before in
-    let i = a .before .before in
-    let r = i .before .before .before in
-    as-says (call-asked _ _ _ (sym (i .before .asks .ensures) ∙ i .if1 .taken) ∙ r .read .ensures .0 _)
-    (record { state = refl; prints = a .asked .ensures; lawful = r .before .before .before .pre .0 })
+line : (c : tie.Else1) → mayBeLine (c .before .before .before .before .args .text .now) ≡ true
+line c = sym (c .before .may-be-line .ensures) ∙ not-false _ (c .if1 .left)
 
-links : tie.Need-returns-2
-links c =
-    let m = c .before .before .before .before in
-    as-says (call-links _ _ _ (m .match .keys1) ∙ m .before .before .before .before .read .ensures .0 _) (c .before .before .links .ensures)
+form : (c : tie.After-read) → c .read .result ≡ formIn (c .before .before .before .before .before .before .before .before .args .text .now)
+form c =
+    let text = c .before .before .before .before .before .before .before .before .args .text .now in
+    c .read .ensures ∙ (λ i. formOf (c .before .before .row .ensures i) (take-all (length text - 1) (drop 1 text) (omega (arith, length-drop 1 text)) i))
 
-send : tie.Need-returns-3
-send c =
-    let m = c .before .before .before .before in
-    as-says (call-send _ _ _ (m .match .keys2) ∙ m .before .before .before .before .read .ensures .0 _) (c .before .before .send .ensures)
+call-requires : tie.Need-call-requires
+call-requires c κs =
+    let r = c .before .before .before in
+    let s = r .before .before .before .before .before .before .before .before in
+    (s .pre .0, (form-bytes _ _ (r .read .ensures), s .pre .1))
 
-done : tie.Need-returns-4
-done c =
-    let d = c .before .before .before .before in
-    let m = d .before in
-    let i = m .before in
-    let n = m .match .rest in
-    as-says (ap doneSays (d .done .ensures .0) ∙ call-done _ _ _ (sym (i .before .asks .ensures) ∙ i .if1 .left) (n .0 .1) (n .1) ∙ i .before .before .before .read .ensures .0 _) (c .before .before .done2 .ensures)
+no-line : tie.Need-returns
+unfolding answerOf
+no-line c =
+    let i = c .before .before .before .before in
+    rw (sym (i .before .may-be-line .ensures) ∙ not-true _ (i .if1 .taken)) (c .before .before .refused .ensures)
+
+no-form : tie.Need-returns-2
+unfolding answerOf
+no-form c =
+    let i = c .before .before .before .before in
+    let r = i .before .before in
+    rw (line (r .before .before .before .before), ← form r, not-true (r .read .result .good) (i .if2 .taken)) (c .before .before .refused2 .ensures)
+
+called : tie.Need-returns-3
+called c =
+    let i = c .before .before .before .before in
+    let r = i .before .before in
+    as-says (answer-call _ _ (line (r .before .before .before .before)) (form r) (not-false _ (i .if2 .left))) (c .before .before .call .ensures)
 
 pub answer-line-spec : {M : Type 1} → statement M
 answer-line-spec =
@@ -39,16 +54,17 @@ answer-line-spec =
     (tie.spec
     (λ c κs. search needs)
     (λ c κs. search needs)
+    (λ c. search needs)
+    no-line
+    (λ c. line-some _ (line (c .before)))
+    (λ c κs. search needs)
+    (λ c. line-some _ (line (c .before .before)))
+    (λ c. line-some _ (line (c .before .before)))
+    (λ c. search needs)
+    (λ c κs. search needs)
     (λ c κs. search needs)
     (λ c. search needs)
-    asked
-    (λ c κs. search needs)
-    (λ c κs. search needs)
-    (λ c κs. search needs)
-    (λ c κs. search needs)
+    no-form
+    call-requires
     (λ c. search needs)
-    links
-    (λ c. search needs)
-    send
-    (λ c. search needs)
-    done)
+    called)
