@@ -4,7 +4,9 @@ use mathlib.Core.List.{List, [], _∷_}
 use Prim.Native.Nat.{ℕ, _+_, _-_, _*_, _^_}
 use lib.IntN.{ℤ, pos, negℤ}
 use Rattle.times.specs.Times.{second, sinceOf, units, grandOf}
-use Rattle.choice.specs.Hop.{lastHop, hopOf}
+use Rattle.choice.specs.Hop.{hopOf}
+use Rattle.choice.specs.Choose.{chosenHop}
+use Rattle.choice.specs.declared.Candidate.the-variants.{Nothing}
 use Rattle.times.specs.declared.LocalTime.{LocalTime}
 use Rattle.samples.specs.Rate.{rateOf, scaledOf}
 use Rattle.samples.specs.Keep.{keptOf}
@@ -83,7 +85,7 @@ table =
     -- hops: h, H
     ∷ row (pos (hopOf 2 3)) (pos 3)
     ∷ row (pos (hopOf 3 2)) (pos 129)
-    ∷ row (pos (hopOf 3 lastHop)) (pos 4)
+    ∷ row (pos (hopOf 3 (chosenHop Nothing))) (pos 4)
     ∷ row (pos (hopOf 253 10)) (pos 254)
     ∷ row (pos (hopOf 254 10)) (pos 254)
     -- backTime 2^33, t = r1 + 2^34

@@ -1,3 +1,4 @@
 pub mod TestLaws
 pub mod TimeLaws
 pub mod RiseLaws
+pub mod Cases
