@@ -8,6 +8,7 @@ use borrow.Author.Tests.{leb-true, leb-false, ltb-true, eqb-true}
 use lib.Dec.{leb, ltb, eqb}
 use lib.ListN.{length, replicate, length-set}
 use lib.Pow.{pow-pos}
+use Rattle.numbers.specs.Digits.{Bytes}
 use Rattle.times.specs.Times.{circle}
 use Rattle.times.specs.declared.LocalTime.{LocalTime}
 use Rattle.line.specs.Sent.{longestElapsed}
@@ -33,7 +34,6 @@ use Rattle.bridge.specs.Send.{sendOf}
 use Rattle.bridge.specs.declared.Bridge.{Bridge}
 use Rattle.bridge.specs.declared.Done.{Done}
 use Rattle.bridge.specs.declared.Linked.{Linked}
-use Rattle.numbers.proofs.Places.{Bytes}
 use Rattle.numbers.proofs.Branches.{if-when}
 use Rattle.times.proofs.TestLaws.{both-hold}
 use Rattle.port.proofs.PortLaws.{empty-lawful, used-lawful, aged-lawful, received-lawful, own-reading-lawful, read-in-range}

@@ -7,7 +7,7 @@ use native.Mathlib.Omega.{arith}
 use lib.Dec.{lit<, lit≤}
 use lib.ListN.{length, take, drop, getD, length-append}
 use lib.Seq.{take-all, take-at}
-use Rattle.numbers.specs.Digits.{onto, numberAt, digits}
+use Rattle.numbers.specs.Digits.{onto, numberAt, digits, Bytes}
 use Rattle.numbers.specs.Table.{total, parted, joined, Held}
 use Rattle.times.specs.Times.{units, InRange}
 use Rattle.choice.specs.Precedence.{precedenceOf}
@@ -18,7 +18,7 @@ use Rattle.frame.specs.Better.{precedenceStart, precedenceBytes}
 use Rattle.frame.specs.Demands.{Typed}
 use Rattle.frame.specs.declared.Fields.{Fields}
 use Rattle.frame.specs.declared.Reading.the-variants.{Frame}
-use Rattle.numbers.proofs.Places.{Bytes, number-add, onto-append, onto-split, length-digits, value-digits}
+use Rattle.numbers.proofs.Places.{number-add, onto-append, onto-split, length-digits, value-digits}
 use Rattle.numbers.proofs.Table.{held-at, held-parted, length-joined, joined-append, joined-parted, parted-joined, drop-joined}
 use Rattle.frame.proofs.FrameLaws.{Accepted, accepted, by-rows, framed, reading, Written, in-range, unrefused, filled}
 

@@ -7,12 +7,8 @@ use lib.IntN.{ℤ, pos, negℤ, natAbs, _+ℤ_, _-ℤ_, _*ℤ_}
 use Rattle.times.specs.Times.{units}
 use Rattle.samples.specs.Keep.{spreadOf}
 use Rattle.samples.specs.declared.Sample.{Sample}
-use Rattle.line.specs.Line.{lineAt}
+use Rattle.line.specs.Line.{lineAt, offOf}
 use Rattle.numbers.proofs.Ring.{same, split, of-pos, neg-pos, sub-+, sub-*, sub-neg-is, natAbs-*, natAbs-+}
-
--- how far the grand time of a' is off from that of a
-abbrev pub offOf : Sample → Sample → ℤ
-offOf a a' = pos (units (a' .grand)) -ℤ pos (units (a .grand))
 
 module _ (a b a' b' : Sample) (older : a' .local ≡ a .local) (newer : b' .local ≡ b .local) where
   -- e1 + (e1 - e0) × x / S at a distance x from the newer sample: both sides times S

@@ -32,3 +32,7 @@ lineAt a b x = pos (spreadOf a b) *ℤ pos (units (b .grand)) +ℤ riseOf a b *�
 abbrev pub NearLine : Sample → Sample → ℤ → ℤ → ℕ → Type 0
 NearLine a b z x back =
     natAbs (pos (spreadOf a b) *ℤ z -ℤ (lineAt a b x +ℤ pos (spreadOf a b) *ℤ pos back)) < bound * spreadOf a b
+
+-- how far the grand time of a' is off from that of a
+abbrev pub offOf : Sample → Sample → ℤ
+offOf a a' = pos (units (a' .grand)) -ℤ pos (units (a .grand))

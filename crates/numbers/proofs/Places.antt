@@ -9,7 +9,7 @@ use lib.Arith.{digits-lt, digits-div, digits-mod}
 use lib.Dec.{lit<}
 use lib.ListN.{length, take, drop, getD, set, length-set, length-append, length-drop}
 use lib.Seq.{drop-cons, getD-set-same, drop-set-lt, append-snoc, take-suc, take-add, drop-drop, getD-drop, length-take-le}
-use Rattle.numbers.specs.Digits.{onto, numberAt, digits}
+use Rattle.numbers.specs.Digits.{onto, numberAt, digits, Bytes}
 
 -- ---- the loop that reads
 
@@ -43,10 +43,6 @@ put-step out rest (suc k) h l =
     rw (sub-one, put-next) (sym (append-snoc (digits k (rest / 256)) (rest % 256) (drop (suc k) out)))
 
 -- ---- a number and its bytes
-
--- every element is a byte
-abbrev pub Bytes : List ℕ → Type 0
-Bytes s = (i : ℕ) → getD s i 0 < 256
 
 pub bytes-drop : (s : List ℕ) (a : ℕ) → Bytes s → Bytes (drop a s)
 bytes-drop s a b i = rw getD-drop (b (a + i))

@@ -7,9 +7,9 @@ use native.Mathlib.Numerals.{sub-one}
 use native.Mathlib.Omega.{arith}
 use lib.ListN.{length, take, drop, getD, set, length-append, length-drop}
 use lib.Seq.{drop-cons, take-append-le, take-take, take-add, drop-drop, take-at, drop-at, length-take-le}
-use Rattle.numbers.specs.Digits.{numberAt, digits, spliced}
+use Rattle.numbers.specs.Digits.{numberAt, digits, spliced, Bytes}
 use Rattle.numbers.specs.Table.{total, parted, joined, Held}
-use Rattle.numbers.proofs.Places.{Bytes, bytes-drop, put-next, length-digits, value-digits, digits-value, number-at-small}
+use Rattle.numbers.proofs.Places.{bytes-drop, put-next, length-digits, value-digits, digits-value, number-at-small}
 
 -- ---- one row, from the end
 

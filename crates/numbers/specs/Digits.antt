@@ -1,7 +1,7 @@
 -- Numbers and their bytes, most significant first.
-use Prim.Native.Nat.{ℕ, zero, suc, _+_, _*_, _/_, _%_}
+use Prim.Native.Nat.{ℕ, zero, suc, _+_, _*_, _/_, _%_, _<_}
 use mathlib.Core.List.{List, [], _∷_, _++_}
-use lib.ListN.{take, drop}
+use lib.ListN.{take, drop, getD}
 
 -- the number that the bytes xs make where they follow those of v
 abbrev pub onto : ℕ → List ℕ → ℕ
@@ -20,3 +20,7 @@ digits (suc n) v = digits n (v / 256) ++ (v % 256 ∷ [])
 -- xs with the n low bytes of v from a on
 abbrev pub spliced : List ℕ → ℕ → ℕ → ℕ → List ℕ
 spliced xs a n v = take a xs ++ (digits n v ++ drop (a + n) xs)
+
+-- every number of the list is a byte
+abbrev pub Bytes : List ℕ → Type 0
+Bytes s = (i : ℕ) → getD s i 0 < 256

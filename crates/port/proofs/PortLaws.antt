@@ -7,6 +7,7 @@ use native.Mathlib.Omega.{arith}
 use borrow.Author.Tests.{lt-ltb, le-ltb, eq-eqb, ne-eqb}
 use lib.Dec.{ltb, eqb}
 use lib.ListN.{length}
+use Rattle.numbers.specs.Digits.{Bytes}
 use Rattle.numbers.specs.Table.{Held}
 use Rattle.times.specs.Times.{circle, sinceOf, InRange, nextCount}
 use Rattle.choice.specs.Hop.{lastHop, hopOf}
@@ -49,7 +50,6 @@ use Rattle.port.specs.declared.Port.{Port}
 use Rattle.port.specs.declared.OwnClock.{OwnClock}
 use Rattle.port.specs.declared.PortDone.{PortDone}
 use Rattle.port.specs.declared.ClockDone.{ClockDone}
-use Rattle.numbers.proofs.Places.{Bytes}
 use Rattle.numbers.proofs.Table.{held-at, held-parted}
 use Rattle.numbers.proofs.Branches.{if-true, if-false, if-when}
 use Rattle.samples.proofs.KeepLaws.{kept-lawful}

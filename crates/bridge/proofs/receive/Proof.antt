@@ -3,6 +3,7 @@ use borrow.Author.Needs.{needs}
 use native.Mathlib.Omega.{arith}
 use mathlib.Core.Path.{_≡_, sym, ap, _∙_}
 use Prim.Native.Nat.{ℕ, _-_, _<_}
+use Rattle.numbers.specs.Digits.{Bytes}
 use Rattle.choice.specs.Choose.{chosenHop}
 use Rattle.port.specs.Receive.{receivedOf}
 use Rattle.table.specs.Table.{portAt}
@@ -11,7 +12,6 @@ use Rattle.bridge.specs.Chosen.{chosenOf}
 use Rattle.bridge.specs.Receive.{delayAt, receiveFieldsOf, receiveOf}
 use Rattle.bridge.specs.Promises.{DonePromise}
 use Rattle.bridge.specs.declared.Done.{Done}
-use Rattle.numbers.proofs.Places.{Bytes}
 use Rattle.port.proofs.PortLaws.{read-in-range}
 use Rattle.table.proofs.CheckLaws.{Ready, port-ready}
 use Rattle.bridge.proofs.StateLaws.{receive-refused, receive-read}
