@@ -1,17 +1,15 @@
 -- Laws of the signed distance: the way on or the way back, whichever is shorter, and how the distances of two latches differ.
-use mathlib.Core.Path.{_≡_, refl, sym, ap, _∙_}
-use Prim.Native.Nat.{ℕ, _+_, _-_, _*_, _<_, _≤_}
+use mathlib.Core.Path.{_≡_, sym, ap, _∙_}
+use Prim.Native.Nat.{ℕ, _+_, _-_, _<_, _≤_}
 use native.Mathlib.Nat.{lt-of-not-le}
 use native.Mathlib.Decide.{decLe}
 use native.Mathlib.Omega.{arith}
 use borrow.Author.Tests.{lt-ltb, le-ltb}
-use lib.IntN.{ℤ, pos, negℤ, natAbs, subℕ, _+ℤ_, _-ℤ_}
+use lib.IntN.{pos, negℤ, natAbs, _-ℤ_}
 use Rattle.times.specs.Times.{circle, sinceOf}
 use Rattle.times.specs.declared.LocalTime.{LocalTime}
-use Rattle.line.specs.Line.{longestReach}
 use Rattle.recorder.specs.Stamp.{halfWay, nearerWay, distanceOf}
 use Rattle.numbers.proofs.Ring.{natAbs-neg, same, neg-pos, minus-is}
-use Rattle.times.proofs.TimeLaws.{since-lt}
 
 -- ---- the two ways round
 

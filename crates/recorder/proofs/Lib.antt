@@ -1,2 +1,5 @@
 pub mod DistanceLaws
 pub mod StampLaws
+pub mod Near
+pub mod Order
+pub mod Edges

@@ -1,12 +1,12 @@
--- Laws of the stamp: the request's formula, each case of the rule, and what a stamp tells of the samples that it is read off.
+-- Laws of the stamp: the request's formula, each case of the rule, the answers, and what a stamp tells of the samples that it is read off.
 use mathlib.Core.Path.{_≡_, refl, sym, ap, _∙_, subst}
 use mathlib.Core.Logic.{inl, inr}
 use Prim.Native.Nat.{ℕ, _<_, _≤_}
 use native.Mathlib.Omega.{arith}
-use borrow.Author.Tests.{le-leb, lt-leb, leb-true, lt-ltb, le-ltb, ltb-true}
+use borrow.Author.Tests.{le-leb, lt-leb, leb-true, lt-ltb, le-ltb}
 use lib.Dec.{ltb, leb}
 use lib.IntN.{ℤ, pos, natAbs, _+ℤ_, +ℤ-assoc, +ℤ-idr}
-use Rattle.refusals.specs.Refusals.{noClock, outOfRange}
+use Rattle.refusals.specs.Refusals.{outOfRange, noClock, fewSamples, beyondRange}
 use Rattle.times.specs.Times.{circle, units, InRange, momentOf}
 use Rattle.times.specs.declared.LocalTime.{LocalTime}
 use Rattle.times.specs.declared.GrandTime.{GrandTime}
@@ -14,7 +14,6 @@ use Rattle.times.specs.declared.Moment.{Moment}
 use Rattle.samples.specs.Rate.{scaledOf}
 use Rattle.samples.specs.Keep.{rateBetween, endsOf}
 use Rattle.samples.specs.declared.Sample.{Sample}
-use Rattle.samples.specs.declared.Samples.{Samples}
 use Rattle.samples.specs.declared.Ends.{Ends}
 use Rattle.samples.specs.declared.Ends.the-variants.{Few, Both}
 use Rattle.line.specs.Line.{longestReach, InReach, readingAt}
@@ -63,6 +62,66 @@ module _ (b : Bridge) (latch : ℕ) where
   unfolding stampOf
   stamp-by h q = ap (λ (x : Candidate). stampBy x (chosenSamples b) (latched latch)) q ∙ if-true _ _ _ (lt-ltb _ _ h)
 
--- the promise, from its equation
+  -- what holds in each case holds of the stamp
+  pub stamp-is : (P : Stamped → Type 0) → P (Refused outOfRange) → P (Refused noClock) → P (Refused fewSamples) → P (Refused tooFar) → P (Refused beyondRange)
+      → ((older newer : Sample) (g : GrandTime) → endsOf (chosenSamples b) ≡ Both older newer
+      → natAbs (distanceOf (latched latch) (newer .local)) ≤ longestReach → InRange g
+      → pos (units g) ≡ readingAt older newer (distanceOf (latched latch) (newer .local)) → P (At g))
+      → P (stampOf b latch)
+  unfolding stampOf
+  stamp-is P off none few far beyond at = if-when P (ltb latch circle) (λ _. by (chosenOf b)) (λ _. off)
+    where
+      through : (e : Ends) → endsOf (chosenSamples b) ≡ e → P (stampThrough e (latched latch))
+      through Few q = few
+      through (Both older newer) q =
+          if-when P (leb (natAbs (distanceOf (latched latch) (newer .local))) longestReach)
+          (λ e. moment-is (λ (m : Moment). P (stampAs m)) (readingAt older newer (distanceOf (latched latch) (newer .local))) (λ g. at older newer g q (leb-true _ _ e)) (λ _. beyond))
+          (λ _. far)
+
+      by : (c : Candidate) → P (stampBy c (chosenSamples b) (latched latch))
+      by Nothing = none
+      by (Clock precedence hop number) = through (endsOf (chosenSamples b)) refl
+
+  pub stamp-answers : StampAnswers (stampOf b latch)
+  stamp-answers =
+      stamp-is StampAnswers (inr (inl refl)) (inr (inr (omega arith, omega arith))) (inr (inr (omega arith, omega arith))) (inr (inr (omega arith, omega arith)))
+      (inr (inr (omega arith, omega arith))) (λ _ _ _ _ _ _ _. inl refl)
+
+-- ---- the promise, from its equation; and two outcomes that it allows are equal
+
 pub stamp-out : (b : Bridge) (latch : ℕ) (s : Stamped) → s ≡ stampOf b latch → StampPromise b latch s
 stamp-out b latch s e = record { answer = e; number = ap stampNo e; time = ap stampTime e }
+
+pub stamp-one : (b : Bridge) (latch : ℕ) (x y : Stamped) → StampPromise b latch x → StampPromise b latch y → x ≡ y
+stamp-one b latch x y p q = p .answer ∙ sym (q .answer)
+
+-- ---- what a stamp tells: the ends of the chosen clock's samples, and that it is the reading at the latch of the line through them
+
+pub record ReadOff (b : Bridge) (latch : ℕ) (g : GrandTime) : Type 0 where
+  pub older : Sample
+  pub newer : Sample
+  pub kept : endsOf (chosenSamples b) ≡ Both older newer
+  pub reach : natAbs (distanceOf (latched latch) (newer .local)) ≤ longestReach
+  pub time : pos (units g) ≡ readingAt older newer (distanceOf (latched latch) (newer .local))
+
+pub read-off : (b : Bridge) (latch : ℕ) (g : GrandTime) → stampOf b latch ≡ At g → ReadOff b latch g
+read-off b latch g =
+    stamp-is b latch (λ (s : Stamped). s ≡ At g → ReadOff b latch g) (refused _) (refused _) (refused _) (refused _) (refused _)
+    (λ older newer h k l r z q.
+    let p : h ≡ g = cc in
+    record { older = older; newer = newer; kept = k; reach = l; time = ap (λ (x : GrandTime). pos (units x)) (sym p) ∙ z })
+  where
+    refused : (k : ℕ) → Refused k ≡ At g → ReadOff b latch g
+    refused k q = let z : _≡_ {A = ℕ} 0 1 = cc in absurd (omega arith)
+
+-- the same, of two ends that are known
+pub read-at : (b : Bridge) (latch : ℕ) (g : GrandTime) (older newer : Sample) → endsOf (chosenSamples b) ≡ Both older newer → stampOf b latch ≡ At g
+    → (natAbs (distanceOf (latched latch) (newer .local)) ≤ longestReach) × (pos (units g) ≡ readingAt older newer (distanceOf (latched latch) (newer .local)))
+read-at b latch g older newer k e =
+    let r = read-off b latch g e in
+    let both : Both (r .older) (r .newer) ≡ Both older newer = sym (r .kept) ∙ k in
+    let first : r .older ≡ older = cc in
+    let second : r .newer ≡ newer = cc in (
+      subst (λ (s : Sample). natAbs (distanceOf (latched latch) (s .local)) ≤ longestReach) second (r .reach),
+      r .time ∙ (λ i. readingAt (first i) (second i) (distanceOf (latched latch) (second i .local))),
+    )

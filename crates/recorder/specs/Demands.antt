@@ -4,7 +4,6 @@ use mathlib.Core.Logic.{_⊎_}
 use Prim.Native.Nat.{ℕ, _*_, _≤_}
 use lib.IntN.{pos}
 use Rattle.times.specs.Times.{sinceOf, units}
-use Rattle.times.specs.declared.LocalTime.{LocalTime}
 use Rattle.times.specs.declared.GrandTime.{GrandTime}
 use Rattle.samples.specs.Keep.{endsOf}
 use Rattle.samples.specs.declared.Sample.{Sample}

@@ -2,7 +2,6 @@
 use borrow.Author.Needs.{needs}
 use native.Mathlib.Omega.{arith}
 use mathlib.Core.Path.{ap, _∙_}
-use Rattle.times.specs.Times.{circle}
 use Rattle.recorder.specs.Stamp.{nearerWay, distanceOf}
 use Rattle.numbers.proofs.Machine.{got}
 use Rattle.times.proofs.TimeLaws.{since-lt}

@@ -5,12 +5,12 @@ use native.Mathlib.Omega.{arith}
 use mir.Syntax.{w64}
 use mir.Val.{toZ, ofZ}
 use Prim.Native.Nat.{_≤_}
-use lib.IntN.{ℤ, natAbs, +ℤ-idr}
+use lib.IntN.{natAbs, +ℤ-idr}
 use Rattle.times.specs.Times.{momentOf}
 use Rattle.samples.specs.Keep.{endsOf, LawfulEnds}
 use Rattle.samples.specs.declared.Sample.{Sample}
 use Rattle.samples.specs.declared.Ends.the-variants.{Both}
-use Rattle.line.specs.Line.{longestReach, InReach, readingAt}
+use Rattle.line.specs.Line.{longestReach, readingAt}
 use Rattle.recorder.specs.Stamp.{distanceOf}
 use Rattle.numbers.proofs.Machine.{got}
 use Rattle.samples.proofs.KeepLaws.{ends-lawful}

@@ -1,0 +1,12 @@
+-- Stamps at the edges: what the definitions give is what the request says, one claim over the whole table.
+use mathlib.Core.Path.{_≡_, refl}
+use mathlib.Core.List.{map}
+use Rattle.times.specs.Times.{sinceOf, momentOf}
+use Rattle.samples.specs.Rate.{rateOf, scaledOf}
+use Rattle.line.specs.Line.{readingAt}
+use Rattle.recorder.specs.Stamp.{distanceOf}
+use Rattle.recorder.specs.Edges.{Row, table}
+
+pub claim : map (λ (r : Row). r .got) table ≡ map (λ (r : Row). r .says) table
+unfolding table sinceOf momentOf rateOf scaledOf readingAt distanceOf
+claim = refl
