@@ -16,7 +16,10 @@ returns c =
     got (c .from-unsigned .ok) (c .from-unsigned .ensures ∙ way-on _ (k .if1 .taken) ∙ ap nearerWay (k .before .since .ensures))
 
 difference-requires : tie.Need-difference-requires
-difference-requires c κs = (omega (arith, c .before .since .ensures, since-lt (c .before .before .args .latch) (c .before .before .args .newer)), omega arith)
+difference-requires c κs =
+    let s = c .before .before .args in
+    let small = since-lt (s .latch) (s .newer) in
+    (omega (arith, c .before .since .ensures, small), omega (arith, c .before .since .ensures, small))
 
 returns-2 : tie.Need-returns-2
 unfolding distanceOf

@@ -1,7 +1,8 @@
 -- By the latch's range, by whether a clock is chosen, and by the samples of that clock.
 use borrow.Author.Needs.{needs}
 use mathlib.Core.Path.{_≡_, sym, ap, _∙_, subst}
-use Prim.Native.Nat.{_<_, _≤_}
+use Prim.Native.Nat.{_<_}
+use native.Mathlib.Omega.{arith}
 use borrow.Author.Tests.{leb-true, leb-false}
 use Rattle.times.specs.Times.{circle}
 use Rattle.samples.specs.Keep.{endsOf, LawfulSamples}
@@ -32,7 +33,7 @@ samples-at-requires : tie.Need-samples-at-requires
 samples-at-requires c κs =
     let k = c .before .before .before in
     let s = k .before .before .before .before .before in
-    subst (λ (x : Candidate). numberOf x ≤ 8) (sym (chosen-is k)) (chosen-number (s .args .b) (s .pre .records))
+    omega (arith, ap numberOf (chosen-is k), chosen-number (s .args .b) (s .pre .records))
 
 through-requires : tie.Need-through-requires
 through-requires c κs =
