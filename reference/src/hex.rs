@@ -2,6 +2,10 @@
 
 /// The most digits of a number in a line.
 pub const NUMBER_DIGITS: usize = 16;
+/// The digits of a local time where it has its full width.
+pub const LOCAL_DIGITS: usize = 12;
+/// The digits of a grand time where it has its full width.
+pub const GRAND_DIGITS: usize = 20;
 
 const DIGITS: &[u8; 16] = b"0123456789ABCDEF";
 

@@ -4,6 +4,7 @@ use crate::bridge::{Calls, Listed, Plan};
 use crate::byvalue::{Flat, Handed};
 use crate::listing::Listing;
 use crate::lives::lives;
+use crate::program::Program;
 use crate::replay::Replay;
 use crate::rules::{
     held_hop, link_delay, parts_per_million, rate, rated, sent_grand, steady, HOP_NONE,

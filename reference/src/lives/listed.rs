@@ -3,7 +3,7 @@
 use super::random::Random;
 use super::spoil;
 use crate::frame::FRAME_LEN;
-use crate::hex;
+use crate::hex::{self, LOCAL_DIGITS};
 use crate::listing::LINE_DIGITS;
 
 /// In a thousand lines, how many are led by a spoiled copy.
@@ -81,7 +81,7 @@ fn arrival(line: &[u8]) -> Option<(u64, Vec<u8>)> {
     }
     let mut listed = Vec::with_capacity(LINE_DIGITS);
     hex::put_number(&mut listed, u128::from(port), 2);
-    hex::put_number(&mut listed, u128::from(arrival), 12);
+    hex::put_number(&mut listed, u128::from(arrival), LOCAL_DIGITS);
     listed.extend_from_slice(frame);
     Some((port, listed))
 }

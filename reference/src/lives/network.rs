@@ -5,7 +5,7 @@ use super::pen::Pen;
 use super::plans;
 use super::random::Random;
 use super::spoil;
-use crate::answer::{DONE, NO_CLOCK, TOO_LATE};
+use crate::answer::{DONE, NO_CLOCK, NO_GRAND_TIME};
 use crate::bridge::Plan;
 use crate::frame::{self, Fields};
 use crate::port::Heard;
@@ -340,7 +340,7 @@ impl Network {
                 neighbour.hear(&fields, now + neighbour.link);
             }
         }
-        if (NO_CLOCK..=TOO_LATE).contains(&answer) {
+        if (NO_CLOCK..=NO_GRAND_TIME).contains(&answer) {
             neighbour.bridge_left = None;
         }
     }

@@ -7,6 +7,7 @@ use crate::answer::{Answer, BAD_LINE};
 use crate::bridge::{Bridge, Listed, Plan};
 use crate::frame::{self, Fields, FRAME_LEN};
 use crate::hex;
+use crate::program::Program;
 use crate::replay::Replay;
 use std::io;
 
