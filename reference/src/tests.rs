@@ -4,7 +4,9 @@ use crate::answer::{NO_CLOCK, NO_GRAND_TIME, OUT_OF_RANGE, OUT_OF_REACH, TOO_FEW
 use crate::bridge::{Calls, Listed, Plan};
 use crate::byvalue::{Flat, Handed};
 use crate::listing::Listing;
+use crate::lives::census::Census;
 use crate::lives::lives;
+use crate::lives::stamped::Stamper;
 use crate::program::Program;
 use crate::replay::Replay;
 use crate::rules::{
@@ -122,7 +124,7 @@ fn both_forms_of_the_state_answer_alike() {
         bridge: Handed(Flat::empty()),
     };
     let mut out = Vec::new();
-    let played = lives(20_000, 1, &mut |line, reply| {
+    let played = lives(20_000, 1, &mut |line, reply, _| {
         out.clear();
         handed.answer(line, &mut out);
         assert_eq!(out, reply);
@@ -325,4 +327,31 @@ fn only_twelve_digits_are_a_latch() {
     ] {
         assert_eq!(answer(neither), "0E FF FF");
     }
+}
+
+/// Every answer occurs in generated lives, and each that latches can have in the lines for the stamps program.
+#[test]
+fn lives_meet_every_answer() {
+    let mut census = Census::default();
+    let mut stamper = Stamper::default();
+    let mut turned = Vec::new();
+    let played = lives(100_000, 1, &mut |line, reply, bridge| {
+        census.count(line, reply, bridge);
+        stamper.put(line, &mut turned);
+        turned.clear();
+        Ok(())
+    });
+    assert!(played.is_ok());
+    assert!(census.complete());
+    assert!(stamper.census.missing().is_empty());
+}
+
+/// A latch goes to the stamps program in twelve digits.
+#[test]
+fn latches_are_turned_into_twelve_digits() {
+    let mut stamper = Stamper::default();
+    let mut turned = Vec::new();
+    stamper.put(b"E 5abc", &mut turned);
+    assert!(turned.starts_with(b"000000005ABC\n"));
+    assert_eq!(stamper.census.missing().len(), 8);
 }

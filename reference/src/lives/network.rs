@@ -143,6 +143,9 @@ pub fn live(pen: &mut Pen) {
     }
     let plan = plans::good(&mut pen.random);
     pen.setup(&plan);
+    if pen.random.often(300) {
+        extras::edge_stamp(pen);
+    }
     let mut network = Network::around(&mut pen.random, &plan);
     let all = ((1_u16 << plan.ports) - 1) as u8;
     pen.links(all);
@@ -369,6 +372,7 @@ impl Network {
                 pen.age(now);
             }
             45..=64 => extras::ask(pen),
+            65..=94 => extras::edge_stamp(pen),
             _ => {}
         }
     }
