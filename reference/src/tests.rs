@@ -5,6 +5,7 @@ use crate::bridge::{Calls, Listed, Plan};
 use crate::byvalue::{Flat, Handed};
 use crate::listing::Listing;
 use crate::lives::census::Census;
+use crate::lives::latches;
 use crate::lives::lives;
 use crate::lives::stamped::Stamper;
 use crate::program::Program;
@@ -354,4 +355,33 @@ fn latches_are_turned_into_twelve_digits() {
     stamper.put(b"E 5abc", &mut turned);
     assert!(turned.starts_with(b"000000005ABC\n"));
     assert_eq!(stamper.census.missing().len(), 8);
+}
+
+/// Every stamp in generated lives is less than 17 U from the line through the chosen clock's two samples.
+#[test]
+fn stamps_lie_near_the_line() {
+    let mut stamps = 0;
+    let played = lives(100_000, 2, &mut |line, reply, bridge| {
+        let (Some(latch), Some(stamp)) = (latches::called(line), stamp_of(reply)) else {
+            return Ok(());
+        };
+        let Some((older, newer)) = latches::followed(bridge).both() else {
+            return Err(std::io::Error::other("a stamp without two samples"));
+        };
+        let run = i128::from(spread(newer.local, older.local));
+        let rise = newer.grand as i128 - older.grand as i128;
+        let risen = stamp - newer.grand as i128;
+        let off = risen * run - rise * distance(latch, newer.local);
+        assert!(off.abs() < 17 * run);
+        stamps += 1;
+        Ok(())
+    });
+    assert!(played.is_ok());
+    assert!(stamps > 1000);
+}
+
+/// Gives the stamp that replay printed, where it did.
+fn stamp_of(reply: &[u8]) -> Option<i128> {
+    let digits = std::str::from_utf8(reply.strip_prefix(b"00 ")?).ok()?;
+    i128::from_str_radix(digits, 16).ok()
 }

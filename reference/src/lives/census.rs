@@ -3,7 +3,7 @@
 use super::latches;
 use super::pen::answer_of;
 use crate::answer::{
-    Answer, BAD_LINE, DONE, NO_CLOCK, NO_GRAND_TIME, OUT_OF_REACH, TOO_FEW_SAMPLES,
+    Answer, BAD_LINE, DONE, NO_CLOCK, NO_GRAND_TIME, OUT_OF_RANGE, OUT_OF_REACH, TOO_FEW_SAMPLES,
 };
 use crate::bridge::Listed;
 use crate::times::{distance, is_local};
@@ -23,6 +23,7 @@ const AT: usize = 2;
 const AFTER: usize = 3;
 
 /// What answers to latches there should be at the least, where below zero is before and the end is after.
+/// Twelve digits are never out of range, so that answer is wanted of calls alone.
 const STAMPS_WANTED: [(usize, Answer); 9] = [
     (NOWHERE, NO_CLOCK),
     (NOWHERE, TOO_FEW_SAMPLES),
@@ -146,7 +147,9 @@ impl Census {
 
     /// Says whether every answer was seen.
     pub fn complete(&self) -> bool {
-        self.missing().is_empty() && self.stamps.missing().is_empty()
+        self.missing().is_empty()
+            && self.stamps.missing().is_empty()
+            && self.stamps.counts[NOWHERE][usize::from(OUT_OF_RANGE)] > 0
     }
 
     /// Gives the answers that were never seen.

@@ -3,7 +3,7 @@
 mod aimed;
 pub mod census;
 mod extras;
-mod latches;
+pub(crate) mod latches;
 pub mod listed;
 mod network;
 mod pen;
