@@ -27,9 +27,9 @@ pub const BAD_DELAY: Answer = 9;
 pub const NO_CLOCK: Answer = 10;
 /// The chosen clock lacks samples.
 pub const TOO_FEW_SAMPLES: Answer = 11;
-/// The departure is too far from the newer sample.
-pub const TOO_OLD: Answer = 12;
-/// The grand time to be sent does not fit.
-pub const TOO_LATE: Answer = 13;
+/// The departure or the latch is too far from the newer sample.
+pub const OUT_OF_REACH: Answer = 12;
+/// What was worked out, to be sent or as a stamp, is no grand time.
+pub const NO_GRAND_TIME: Answer = 13;
 /// The line of text does not have the wanted form.
 pub const BAD_LINE: Answer = 14;

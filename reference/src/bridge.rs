@@ -1,14 +1,14 @@
 //! The bridge: its ports, the station's own clock and the calls.
 
 use crate::answer::{
-    Answer, BAD_LENGTH, BAD_SETUP, DONE, NO_CLOCK, NO_LINK, OUT_OF_RANGE, OUT_OF_SEQUENCE,
-    TOO_FEW_SAMPLES, TOO_LATE, TOO_OLD,
+    Answer, BAD_LENGTH, BAD_SETUP, DONE, NO_CLOCK, NO_GRAND_TIME, NO_LINK, OUT_OF_RANGE,
+    OUT_OF_REACH, OUT_OF_SEQUENCE, TOO_FEW_SAMPLES,
 };
 use crate::frame::{self, Fields, FRAME_LEN, MAC_LEN};
 use crate::port::{Heard, Port};
-use crate::rules::{self, DELAY_MOST, HOP_NONE, REACH_END};
+use crate::rules::{self, DELAY_MOST, HOP_NONE, REACH_END, STAMPED_MOST};
 use crate::samples::{Sample, Samples};
-use crate::times::{grand, is_local, next_count, spread};
+use crate::times::{distance, grand, is_local, next_count, spread};
 use std::ops::RangeInclusive;
 
 /// The most ports that a bridge has.
@@ -103,6 +103,8 @@ pub trait Calls {
     fn send(&mut self, port: u8, departure: u64, output: &mut [u8]) -> Answer;
     /// Gives a clock's drift, if it has one to read.
     fn drift(&mut self, port: u8) -> Result<Option<f64>, Answer>;
+    /// Gives the grand time of a latched local time.
+    fn stamp(&mut self, latch: u64) -> Result<u128, Answer>;
 }
 
 impl<T: Table> Bridge<T> {
@@ -171,22 +173,34 @@ impl<T: Table> Bridge<T> {
             .map(|place| &self.ports.as_ref()[place].record.samples)
     }
 
-    /// Gives the chosen clock, its newer error and the grand time for a departure, or refuses.
-    fn to_send(&self, departure: u64) -> Result<(Chosen, i32, u128), Answer> {
+    /// Gives the chosen clock with its older and its newer sample, or refuses.
+    fn followed(&self) -> Result<(Chosen, Sample, Sample), Answer> {
         let chosen = self.best().ok_or(NO_CLOCK)?;
         let (older, newer) = self
             .samples(chosen.port)
             .and_then(Samples::both)
             .ok_or(TOO_FEW_SAMPLES)?;
+        Ok((chosen, older, newer))
+    }
+
+    /// Gives the chosen clock, its newer error and the grand time for a departure, or refuses.
+    fn to_send(&self, departure: u64) -> Result<(Chosen, i32, u128), Answer> {
+        let (chosen, older, newer) = self.followed()?;
         if spread(departure, newer.local) >= REACH_END {
-            return Err(TOO_OLD);
+            return Err(OUT_OF_REACH);
         }
         let back = self.settings.back;
         let sent = rules::sent_grand(older.point(), newer.point(), back, departure);
-        if !rules::fits_grand(sent) {
-            return Err(TOO_LATE);
-        }
-        Ok((chosen, newer.error, sent as u128))
+        Ok((chosen, newer.error, as_grand(sent)?))
+    }
+}
+
+/// Gives a number that was worked out as a grand time, or refuses.
+fn as_grand(time: i128) -> Result<u128, Answer> {
+    if rules::fits_grand(time) {
+        Ok(time as u128)
+    } else {
+        Err(NO_GRAND_TIME)
     }
 }
 
@@ -315,5 +329,18 @@ impl<T: Table> Calls for Bridge<T> {
     fn drift(&mut self, port: u8) -> Result<Option<f64>, Answer> {
         let samples = self.samples(port).ok_or(OUT_OF_RANGE)?;
         Ok(samples.rate().map(rules::parts_per_million))
+    }
+
+    /// Gives the grand time of a latch on the line through the chosen clock's two samples.
+    fn stamp(&mut self, latch: u64) -> Result<u128, Answer> {
+        if !is_local(latch) {
+            return Err(OUT_OF_RANGE);
+        }
+        let (_, older, newer) = self.followed()?;
+        let distance = distance(latch, newer.local);
+        if distance.abs() > STAMPED_MOST {
+            return Err(OUT_OF_REACH);
+        }
+        as_grand(rules::stamp(older.point(), newer.point(), distance))
     }
 }

@@ -100,6 +100,12 @@ pub fn drift(mut bridge: Flat, port: u8) -> Result<Option<f64>, Answer> {
     bridge.drift(port)
 }
 
+/// Gives the grand time that a bridge has for a latch.
+#[inline(never)]
+pub fn stamp(mut bridge: Flat, latch: u64) -> Result<u128, Answer> {
+    bridge.stamp(latch)
+}
+
 /// The holder of a bridge that goes through every call by value.
 #[derive(Clone, Copy, Debug)]
 pub struct Handed(pub Flat);
@@ -151,5 +157,10 @@ impl Calls for Handed {
     /// Asks a copy of the bridge for a drift.
     fn drift(&mut self, port: u8) -> Result<Option<f64>, Answer> {
         drift(self.0, port)
+    }
+
+    /// Asks a copy of the bridge for a stamp.
+    fn stamp(&mut self, latch: u64) -> Result<u128, Answer> {
+        stamp(self.0, latch)
     }
 }

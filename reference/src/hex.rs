@@ -2,6 +2,10 @@
 
 /// The most digits of a number in a line.
 pub const NUMBER_DIGITS: usize = 16;
+/// The digits of a local time where it has its full width.
+pub const LOCAL_DIGITS: usize = 12;
+/// The digits of a grand time where it has its full width.
+pub const GRAND_DIGITS: usize = 20;
 
 const DIGITS: &[u8; 16] = b"0123456789ABCDEF";
 
@@ -25,6 +29,19 @@ pub fn number(text: &[u8]) -> Option<u64> {
     })
 }
 
+/// Reads exactly two digits as a byte.
+pub fn byte(text: &[u8]) -> Option<u8> {
+    let [high, low] = text else {
+        return None;
+    };
+    Some(16 * digit(*high)? + digit(*low)?)
+}
+
+/// Gives how many digits a number needs, at least one.
+pub fn digits_of(number: u64) -> usize {
+    (number.checked_ilog2().unwrap_or(0) / 4 + 1) as usize
+}
+
 /// Reads pairs of digits over the start of a room and gives the bytes, if they are digits and fit.
 pub fn bytes<'a>(text: &[u8], room: &'a mut [u8]) -> Option<&'a [u8]> {
     let pairs = text.chunks_exact(2);
@@ -33,7 +50,7 @@ pub fn bytes<'a>(text: &[u8], room: &'a mut [u8]) -> Option<&'a [u8]> {
     }
     let found = room.get_mut(..pairs.len())?;
     for (byte, pair) in found.iter_mut().zip(pairs) {
-        *byte = 16 * digit(pair[0])? + digit(pair[1])?;
+        *byte = self::byte(pair)?;
     }
     Some(found)
 }

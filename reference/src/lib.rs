@@ -11,9 +11,11 @@ pub mod input;
 pub mod listing;
 pub mod lives;
 pub mod port;
+pub mod program;
 pub mod replay;
 pub mod rules;
 pub mod samples;
+pub mod stamps;
 pub mod times;
 
 #[cfg(test)]

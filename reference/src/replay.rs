@@ -3,7 +3,8 @@
 use crate::answer::{Answer, BAD_LINE, DONE, OUT_OF_RANGE};
 use crate::bridge::{Calls, Plan, PORTS_MOST};
 use crate::frame::{self, Fields, MAC_LEN, PRECEDENCE_LEN};
-use crate::hex;
+use crate::hex::{self, GRAND_DIGITS, LOCAL_DIGITS};
+use crate::program::Program;
 use crate::times::grand;
 
 /// The longest line that can have the form, the one with two of the longest byte fields.
@@ -128,14 +129,24 @@ impl Output {
     }
 }
 
-impl<C: Calls> Replay<C> {
+impl<C: Calls> Program for Replay<C> {
+    type Bridge = C;
+    const LONGEST: usize = LINE_MOST;
+
+    /// Starts with the bridge as it is.
+    fn on(bridge: C) -> Self {
+        Replay { bridge }
+    }
+
     /// Plays one line and prints what it answers.
-    pub fn answer(&mut self, line: &[u8], out: &mut Vec<u8>) {
+    fn answer(&mut self, line: &[u8], out: &mut Vec<u8>) {
         if self.play(line, out).is_none() {
             hex::put_byte(out, BAD_LINE);
         }
     }
+}
 
+impl<C: Calls> Replay<C> {
     /// Plays one line if it has the form, and nothing else.
     fn play(&mut self, line: &[u8], out: &mut Vec<u8>) -> Option<()> {
         if line.len() > LINE_MOST {
@@ -151,6 +162,7 @@ impl<C: Calls> Replay<C> {
             b"C" => self.chosen(rest, out),
             b"T" => self.send(rest, out),
             b"D" => self.drift(rest, out),
+            b"E" => self.stamp(rest, out),
             b"F" => read(rest, out),
             b"W" => write(rest, out),
             b"B" => better(rest, out),
@@ -252,6 +264,21 @@ impl<C: Calls> Replay<C> {
         }
         Some(())
     }
+
+    /// Prints the stamp of a latch.
+    fn stamp(&mut self, mut rest: Rest, out: &mut Vec<u8>) -> Option<()> {
+        let latch = rest.number()?;
+        rest.end()?;
+        match self.bridge.stamp(latch) {
+            Ok(stamp) => {
+                hex::put_byte(out, DONE);
+                out.push(b' ');
+                hex::put_number(out, stamp, GRAND_DIGITS);
+            }
+            Err(refusal) => hex::put_byte(out, refusal),
+        }
+        Some(())
+    }
 }
 
 /// Prints two bytes with a space between them.
@@ -286,10 +313,10 @@ fn put_fields(out: &mut Vec<u8>, fields: &Fields) {
         (fields.precedence, 26),
         (u128::from(fields.hop), 2),
         (u128::from(fields.count), 2),
-        (fields.grand, 20),
-        (u128::from(fields.local), 12),
-        (u128::from(fields.that_tx), 12),
-        (u128::from(fields.that_rx), 12),
+        (fields.grand, GRAND_DIGITS),
+        (u128::from(fields.local), LOCAL_DIGITS),
+        (u128::from(fields.that_tx), LOCAL_DIGITS),
+        (u128::from(fields.that_rx), LOCAL_DIGITS),
         (u128::from(fields.error as u32), 8),
     ];
     hex::put_byte(out, DONE);

@@ -1,4 +1,4 @@
-//! The arithmetic of rates, delays, hops and sent times.
+//! The arithmetic of rates, delays, hops, sent times and stamps.
 
 use crate::times::{spread, GRAND_END};
 
@@ -16,6 +16,8 @@ pub const TRIP_MOST: u64 = 1 << 39;
 pub const DELAY_MOST: u64 = 1 << 30;
 /// The first distance from the newer sample that is too great for a send.
 pub const REACH_END: u64 = 1 << 39;
+/// The greatest distance from the newer sample, before or after it, that is stamped.
+pub const STAMPED_MOST: i128 = 1 << 39;
 /// The hop that stands for no clock, and that no frame is taken with.
 pub const HOP_NONE: u8 = 255;
 /// What a rate is multiplied with before it is a reading in parts per million.
@@ -89,12 +91,22 @@ pub fn sample_difference(older: (u128, u64), newer: (u128, u64)) -> i128 {
 pub fn sent_grand(older: (u128, u64), newer: (u128, u64), back: u64, departure: u64) -> i128 {
     let reach = i128::from(spread(departure, newer.1));
     let stretch = reach - i128::from(back);
-    newer.0 as i128 + reach + rated(sample_rate(older, newer), stretch)
+    led_on(older, newer, reach, stretch)
 }
 
-/// Says whether a worked-out grand time can stand in a frame.
+/// Gives the stamp of a latch at a distance from the newer of two samples.
+pub fn stamp(older: (u128, u64), newer: (u128, u64), distance: i128) -> i128 {
+    led_on(older, newer, distance, distance)
+}
+
+/// Leads the newer sample's grand time on by a way, and by what the samples' rate makes of a stretch.
+fn led_on(older: (u128, u64), newer: (u128, u64), way: i128, stretch: i128) -> i128 {
+    newer.0 as i128 + way + rated(sample_rate(older, newer), stretch)
+}
+
+/// Says whether a number that was worked out is a grand time.
 pub fn fits_grand(time: i128) -> bool {
-    time < GRAND_END as i128
+    (0..GRAND_END as i128).contains(&time)
 }
 
 /// Gives the reading in parts per million for a rate.

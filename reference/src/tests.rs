@@ -1,16 +1,25 @@
 //! The figures that are known beforehand.
 
+use crate::answer::{NO_CLOCK, NO_GRAND_TIME, OUT_OF_RANGE, OUT_OF_REACH, TOO_FEW_SAMPLES};
 use crate::bridge::{Calls, Listed, Plan};
 use crate::byvalue::{Flat, Handed};
 use crate::listing::Listing;
+use crate::lives::census::Census;
+use crate::lives::latches;
 use crate::lives::lives;
+use crate::lives::stamped::Stamper;
+use crate::program::Program;
 use crate::replay::Replay;
 use crate::rules::{
     held_hop, link_delay, parts_per_million, rate, rated, sent_grand, steady, HOP_NONE,
 };
-use crate::times::{next_count, spread, LOCAL_END};
+use crate::samples::{Sample, Samples};
+use crate::stamps::Stamps;
+use crate::times::{distance, moved, next_count, spread, GRAND_END, LOCAL_END};
 
 const SECOND: u128 = 1 << 40;
+/// The greatest distance that is stamped, by document 02's figure.
+const FARTHEST: i128 = 1 << 39;
 
 /// Rates of both signs go to the lower whole number.
 #[test]
@@ -116,11 +125,263 @@ fn both_forms_of_the_state_answer_alike() {
         bridge: Handed(Flat::empty()),
     };
     let mut out = Vec::new();
-    let played = lives(20_000, 1, &mut |line, reply| {
+    let played = lives(20_000, 1, &mut |line, reply, _| {
         out.clear();
         handed.answer(line, &mut out);
         assert_eq!(out, reply);
         Ok(())
     });
     assert!(played.is_ok());
+}
+
+/// The local spread of two samples and their grand spread less it.
+struct Line {
+    spread: u64,
+    difference: i128,
+}
+
+const RATE_2: Line = Line {
+    spread: 1 << 34,
+    difference: 1,
+};
+const RATE_0: Line = Line {
+    spread: 1 << 34,
+    difference: 0,
+};
+const RATE_MINUS_1: Line = Line {
+    spread: 1 << 36,
+    difference: -1,
+};
+
+/// A bridge that follows its own clock, whose newer sample is given and whose older one lies on a line with it.
+struct Followed {
+    bridge: Listed,
+    newer_local: u64,
+}
+
+impl Followed {
+    /// Makes the bridge with the two samples.
+    fn on(line: &Line, newer_grand: u128, newer_local: u64) -> Followed {
+        let newer = Sample {
+            grand: newer_grand,
+            local: newer_local,
+            error: 0,
+        };
+        let older_grand = newer_grand as i128 - i128::from(line.spread) - line.difference;
+        let older = Sample {
+            grand: older_grand as u128,
+            local: moved(newer_local, -i128::from(line.spread)),
+            error: 0,
+        };
+        let mut bridge = capable();
+        bridge.own.samples = Samples {
+            newest: Some(newer),
+            older: Some(older),
+        };
+        Followed {
+            bridge,
+            newer_local,
+        }
+    }
+
+    /// Gives the stamp of the latch at a distance from the newer sample.
+    fn at(&mut self, distance: i128) -> Result<u128, u8> {
+        self.bridge.stamp(moved(self.newer_local, distance))
+    }
+}
+
+/// Makes a bridge whose own clock is chosen and has no sample yet.
+fn capable() -> Listed {
+    let mut bridge = Listed::empty();
+    let plan = Plan {
+        ports: 1,
+        capable: true,
+        ..Plan::default()
+    };
+    assert_eq!(bridge.setup(&plan), 0);
+    bridge
+}
+
+/// The nearer way round has its sign, across the wrap too.
+#[test]
+fn distances_go_the_nearer_way() {
+    assert_eq!(distance(7, 7), 0);
+    assert_eq!(distance(0, LOCAL_END - 1), 1);
+    assert_eq!(distance(LOCAL_END - 1, 0), -1);
+    assert_eq!(distance((1 << 47) - 1, 0), (1 << 47) - 1);
+    assert_eq!(distance((1 << 47) + 1, 0), 1 - (1 << 47));
+    assert_eq!(distance(1 << 47, 0).abs(), 1 << 47);
+}
+
+/// At the newer sample the stamp is its grand time, and beside it the rate is rounded down.
+#[test]
+fn stamps_round_down_before_and_after() {
+    let newer = 100 * SECOND;
+    let mut faster = Followed::on(&RATE_2, newer, 5 << 40);
+    assert_eq!(faster.at(0), Ok(newer));
+    assert_eq!(faster.at(1), Ok(newer + 1));
+    assert_eq!(faster.at(-1), Ok(newer - 2));
+    assert_eq!(faster.at(1 << 34), Ok(newer + (1 << 34) + 1));
+    assert_eq!(faster.at(-(1 << 34)), Ok(newer - (1 << 34) - 1));
+    let mut slower = Followed::on(&RATE_MINUS_1, newer, 5 << 40);
+    assert_eq!(slower.at(0), Ok(newer));
+    assert_eq!(slower.at(1), Ok(newer));
+    assert_eq!(slower.at(-1), Ok(newer - 1));
+    assert_eq!(slower.at(1 << 35), Ok(newer + (1 << 35) - 1));
+    assert_eq!(slower.at(-(1 << 35)), Ok(newer - (1 << 35) + 1));
+}
+
+/// A distance of 2^39 is stamped to both sides, one more is not, nor is the other end of the circle.
+#[test]
+fn stamps_reach_as_far_as_the_limit() {
+    let newer = 100 * SECOND;
+    let mut faster = Followed::on(&RATE_2, newer, 5 << 40);
+    assert_eq!(faster.at(FARTHEST), Ok(newer + (1 << 39) + 32));
+    assert_eq!(faster.at(-FARTHEST), Ok(newer - (1 << 39) - 32));
+    let mut slower = Followed::on(&RATE_MINUS_1, newer, 5 << 40);
+    assert_eq!(slower.at(FARTHEST), Ok(newer + (1 << 39) - 16));
+    assert_eq!(slower.at(-FARTHEST), Ok(newer - (1 << 39) + 16));
+    for beyond in [FARTHEST + 1, -FARTHEST - 1, 1 << 47, (1 << 47) + 1] {
+        assert_eq!(faster.at(beyond), Err(OUT_OF_REACH));
+        assert_eq!(slower.at(beyond), Err(OUT_OF_REACH));
+    }
+}
+
+/// The wrap of local time makes no difference.
+#[test]
+fn stamps_go_across_the_wrap() {
+    let newer = 100 * SECOND;
+    for newer_local in [0, 5, LOCAL_END - 1] {
+        let mut faster = Followed::on(&RATE_2, newer, newer_local);
+        assert_eq!(faster.at(1), Ok(newer + 1));
+        assert_eq!(faster.at(-6), Ok(newer - 7));
+        assert_eq!(faster.at(FARTHEST), Ok(newer + (1 << 39) + 32));
+        assert_eq!(faster.at(-FARTHEST), Ok(newer - (1 << 39) - 32));
+        assert_eq!(faster.at(FARTHEST + 1), Err(OUT_OF_REACH));
+        assert_eq!(faster.at(-FARTHEST - 1), Err(OUT_OF_REACH));
+    }
+}
+
+/// Zero is stamped and nothing below it.
+#[test]
+fn stamps_begin_at_zero() {
+    let mut level = Followed::on(&RATE_0, (1 << 34) + 5, 7);
+    assert_eq!(level.at(-(1 << 34) - 5), Ok(0));
+    assert_eq!(level.at(-(1 << 34) - 6), Err(NO_GRAND_TIME));
+    let mut faster = Followed::on(&RATE_2, 1 << 38, 7);
+    assert_eq!(faster.at(-(1 << 38) + 17), Ok(1));
+    assert_eq!(faster.at(-(1 << 38) + 16), Ok(0));
+    assert_eq!(faster.at(-(1 << 38) + 15), Err(NO_GRAND_TIME));
+    assert_eq!(faster.at(-FARTHEST), Err(NO_GRAND_TIME));
+    assert_eq!(faster.at(-FARTHEST - 1), Err(OUT_OF_REACH));
+}
+
+/// The last grand time is stamped and nothing from 2^80 on.
+#[test]
+fn stamps_end_before_the_end() {
+    let mut level = Followed::on(&RATE_0, GRAND_END - 1 - (1 << 34), 7);
+    assert_eq!(level.at(1 << 34), Ok(GRAND_END - 1));
+    assert_eq!(level.at((1 << 34) + 1), Err(NO_GRAND_TIME));
+    let mut faster = Followed::on(&RATE_2, GRAND_END - (1 << 38), 7);
+    assert_eq!(faster.at((1 << 38) - 17), Ok(GRAND_END - 2));
+    assert_eq!(faster.at((1 << 38) - 16), Ok(GRAND_END - 1));
+    assert_eq!(faster.at((1 << 38) - 15), Err(NO_GRAND_TIME));
+    assert_eq!(faster.at(FARTHEST), Err(NO_GRAND_TIME));
+    assert_eq!(faster.at(FARTHEST + 1), Err(OUT_OF_REACH));
+}
+
+/// The latch's range comes first, then the clock, then its samples, and a stamp leaves the bridge as it was.
+#[test]
+fn stamps_refuse_in_order() {
+    let mut none = Listed::empty();
+    assert_eq!(none.stamp(LOCAL_END), Err(OUT_OF_RANGE));
+    assert_eq!(none.stamp(u64::MAX), Err(OUT_OF_RANGE));
+    assert_eq!(none.stamp(LOCAL_END - 1), Err(NO_CLOCK));
+    let mut few = capable();
+    assert_eq!(few.stamp(LOCAL_END), Err(OUT_OF_RANGE));
+    assert_eq!(few.stamp(0), Err(TOO_FEW_SAMPLES));
+    let mut followed = Followed::on(&RATE_2, SECOND, 7);
+    let before = followed.bridge.clone();
+    assert_eq!(followed.bridge.stamp(LOCAL_END), Err(OUT_OF_RANGE));
+    assert_eq!(followed.bridge.stamp(7), Ok(SECOND));
+    assert_eq!(followed.bridge, before);
+}
+
+/// Twelve digits are a latch in either case, and anything else is the listing's.
+#[test]
+fn only_twelve_digits_are_a_latch() {
+    let mut stamps = Stamps::on(Listed::empty());
+    let mut answer = |line: &str| {
+        let mut out = Vec::new();
+        stamps.answer(line.as_bytes(), &mut out);
+        String::from_utf8_lossy(&out).into_owned()
+    };
+    assert_eq!(answer("00000000000F"), "0A");
+    assert_eq!(answer("ffffffffffff"), "0A");
+    for neither in [
+        "",
+        "00000000000",
+        "0000000000000",
+        "00000000000g",
+        " 00000000000",
+        "00000000000\r",
+    ] {
+        assert_eq!(answer(neither), "0E FF FF");
+    }
+}
+
+/// Every answer occurs in generated lives, and each that latches can have in the lines for the stamps program.
+#[test]
+fn lives_meet_every_answer() {
+    let mut census = Census::default();
+    let mut stamper = Stamper::default();
+    let mut turned = Vec::new();
+    let played = lives(100_000, 1, &mut |line, reply, bridge| {
+        census.count(line, reply, bridge);
+        stamper.put(line, &mut turned);
+        turned.clear();
+        Ok(())
+    });
+    assert!(played.is_ok());
+    assert!(census.complete());
+    assert!(stamper.census.missing().is_empty());
+}
+
+/// A latch goes to the stamps program in twelve digits.
+#[test]
+fn latches_are_turned_into_twelve_digits() {
+    let mut stamper = Stamper::default();
+    let mut turned = Vec::new();
+    stamper.put(b"E 5abc", &mut turned);
+    assert!(turned.starts_with(b"000000005ABC\n"));
+    assert_eq!(stamper.census.missing().len(), 8);
+}
+
+/// Every stamp in generated lives is less than 17 U from the line through the chosen clock's two samples.
+#[test]
+fn stamps_lie_near_the_line() {
+    let mut stamps = 0;
+    let played = lives(100_000, 2, &mut |line, reply, bridge| {
+        let (Some(latch), Some(stamp)) = (latches::called(line), stamp_of(reply)) else {
+            return Ok(());
+        };
+        let Some((older, newer)) = latches::followed(bridge).both() else {
+            return Err(std::io::Error::other("a stamp without two samples"));
+        };
+        let run = i128::from(spread(newer.local, older.local));
+        let rise = newer.grand as i128 - older.grand as i128;
+        let risen = stamp - newer.grand as i128;
+        let off = risen * run - rise * distance(latch, newer.local);
+        assert!(off.abs() < 17 * run);
+        stamps += 1;
+        Ok(())
+    });
+    assert!(played.is_ok());
+    assert!(stamps > 1000);
+}
+
+/// Gives the stamp that replay printed, where it did.
+fn stamp_of(reply: &[u8]) -> Option<i128> {
+    let digits = std::str::from_utf8(reply.strip_prefix(b"00 ")?).ok()?;
+    i128::from_str_radix(digits, 16).ok()
 }

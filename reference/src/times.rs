@@ -20,6 +20,16 @@ pub fn spread(a: u64, b: u64) -> u64 {
     way as u64
 }
 
+/// Gives the nearer way from `b` to `a` round the circle of local times, below zero where it leads back.
+pub fn distance(a: u64, b: u64) -> i128 {
+    let (up, down) = (spread(a, b), spread(b, a));
+    if up <= down {
+        i128::from(up)
+    } else {
+        -i128::from(down)
+    }
+}
+
 /// Moves a local time by a signed number round the circle.
 pub fn moved(time: u64, by: i128) -> u64 {
     (i128::from(time) + by).rem_euclid(i128::from(LOCAL_END)) as u64

@@ -77,6 +77,7 @@ impl Plans {
             30..=32 => extras::edge_age(pen),
             33..=59 => extras::ask(pen),
             60..=61 => extras::any_call(pen),
+            62..=91 => extras::edge_stamp(pen),
             _ => {}
         }
     }

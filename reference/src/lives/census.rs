@@ -1,13 +1,94 @@
 //! Counts how often each call gave each answer.
 
+use super::latches;
 use super::pen::answer_of;
-use crate::answer::BAD_LINE;
+use crate::answer::{
+    Answer, BAD_LINE, DONE, NO_CLOCK, NO_GRAND_TIME, OUT_OF_RANGE, OUT_OF_REACH, TOO_FEW_SAMPLES,
+};
+use crate::bridge::Listed;
+use crate::times::{distance, is_local};
+use std::cmp::Ordering;
 use std::fmt;
 
-/// The letters of the calls whose answers are numbers.
+/// The letters of the calls whose answers are numbers, but for stamps, which are counted by themselves.
 const LETTERS: [u8; 9] = *b"SLORATDFW";
 /// How many answers there are.
 const ANSWERS: usize = BAD_LINE as usize + 1;
+
+/// Where a latch lies: nowhere as long as there are no two samples, else by the newer one.
+const SIDES: [&str; 4] = ["nowhere", "before", "at", "after"];
+const NOWHERE: usize = 0;
+const BEFORE: usize = 1;
+const AT: usize = 2;
+const AFTER: usize = 3;
+
+/// What answers to latches there should be at the least, where below zero is before and the end is after.
+/// Twelve digits are never out of range, so that answer is wanted of calls alone.
+const STAMPS_WANTED: [(usize, Answer); 9] = [
+    (NOWHERE, NO_CLOCK),
+    (NOWHERE, TOO_FEW_SAMPLES),
+    (BEFORE, DONE),
+    (BEFORE, OUT_OF_REACH),
+    (BEFORE, NO_GRAND_TIME),
+    (AT, DONE),
+    (AFTER, DONE),
+    (AFTER, OUT_OF_REACH),
+    (AFTER, NO_GRAND_TIME),
+];
+
+/// Counts of the answers to latches by the side on which they lie.
+#[derive(Default)]
+pub struct StampCensus {
+    counts: [[u64; ANSWERS]; SIDES.len()],
+}
+
+impl StampCensus {
+    /// Counts a latch with its refusal, if it has one, on a bridge.
+    pub fn count(&mut self, latch: u64, refusal: Option<Answer>, bridge: &Listed) {
+        let answer = refusal.unwrap_or(DONE);
+        self.counts[side(latch, bridge)][usize::from(answer)] += 1;
+    }
+
+    /// Gives the wanted answers that were never seen, each with its side.
+    pub fn missing(&self) -> Vec<(&str, Answer)> {
+        STAMPS_WANTED
+            .iter()
+            .filter(|(side, answer)| self.counts[*side][usize::from(*answer)] == 0)
+            .map(|(side, answer)| (SIDES[*side], *answer))
+            .collect()
+    }
+}
+
+impl fmt::Display for StampCensus {
+    /// Prints a row for each side with a column for each answer.
+    fn fmt(&self, out: &mut fmt::Formatter) -> fmt::Result {
+        for (side, row) in SIDES.iter().zip(&self.counts) {
+            put_row(out, &format!("E {side}"), row)?;
+        }
+        writeln!(out, "stamps missing {:?}", self.missing())
+    }
+}
+
+/// Gives the side on which a latch lies of the newer sample of the clock that a bridge follows.
+fn side(latch: u64, bridge: &Listed) -> usize {
+    match latches::followed(bridge).both() {
+        Some((_, newer)) if is_local(latch) => match distance(latch, newer.local).cmp(&0) {
+            Ordering::Less => BEFORE,
+            Ordering::Equal => AT,
+            Ordering::Greater => AFTER,
+        },
+        _ => NOWHERE,
+    }
+}
+
+/// Prints a row of numbers.
+fn put_row<T: fmt::Display>(out: &mut fmt::Formatter, name: &str, row: &[T]) -> fmt::Result {
+    write!(out, "{name:<9}")?;
+    for number in row {
+        write!(out, " {number:>8}")?;
+    }
+    writeln!(out)
+}
 
 /// Counts by call and answer, and of what has no number.
 #[derive(Default)]
@@ -21,14 +102,19 @@ pub struct Census {
     readings: u64,
     parts: u64,
     no_parts: u64,
+    stamps: StampCensus,
 }
 
 impl Census {
-    /// Counts a line with its answer.
-    pub fn count(&mut self, line: &[u8], reply: &[u8]) {
+    /// Counts a line with its answer and the bridge after it.
+    pub fn count(&mut self, line: &[u8], reply: &[u8], bridge: &Listed) {
         self.lines += 1;
         if reply == b"0E" {
             self.bad += 1;
+            return;
+        }
+        if let Some(latch) = latches::called(line) {
+            self.stamps.count(latch, Some(answer_of(reply)), bridge);
             return;
         }
         match line.first() {
@@ -59,8 +145,15 @@ impl Census {
         }
     }
 
+    /// Says whether every answer was seen.
+    pub fn complete(&self) -> bool {
+        self.missing().is_empty()
+            && self.stamps.missing().is_empty()
+            && self.stamps.counts[NOWHERE][usize::from(OUT_OF_RANGE)] > 0
+    }
+
     /// Gives the answers that were never seen.
-    pub fn missing(&self) -> Vec<usize> {
+    fn missing(&self) -> Vec<usize> {
         let seen = |answer| {
             self.counts.iter().any(|row| row[answer] > 0) || (answer == 14 && self.bad > 0)
         };
@@ -71,18 +164,11 @@ impl Census {
 impl fmt::Display for Census {
     /// Prints a row for each call with a column for each answer.
     fn fmt(&self, out: &mut fmt::Formatter) -> fmt::Result {
-        write!(out, "    ")?;
-        for answer in 0..ANSWERS {
-            write!(out, " {answer:>8}")?;
-        }
-        writeln!(out)?;
+        put_row(out, "", &(0..ANSWERS).collect::<Vec<usize>>())?;
         for (letter, row) in LETTERS.iter().zip(&self.counts) {
-            write!(out, "{}   ", char::from(*letter))?;
-            for count in row {
-                write!(out, " {count:>8}")?;
-            }
-            writeln!(out)?;
+            put_row(out, &char::from(*letter).to_string(), row)?;
         }
+        write!(out, "{}", self.stamps)?;
         writeln!(
             out,
             "C    none {}, own {}, port {}",

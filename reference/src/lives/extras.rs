@@ -1,10 +1,10 @@
 //! Calls that fit any moment: questions, calls at a limit, and calls by chance.
 
+use super::latches;
 use super::pen::Pen;
 use super::plans;
 use super::random::Random;
 use super::spoil;
-use crate::bridge::OWN;
 use crate::frame::{self, Fields, FRAME_LEN};
 use crate::replay::BYTES_MOST;
 use crate::rules::{self, REACH_END};
@@ -80,24 +80,27 @@ pub fn edge_send(pen: &mut Pen) {
     let Some(port) = linked_port(pen) else {
         return;
     };
-    let bridge = pen.bridge();
-    let back = bridge.settings.back;
-    let chosen = bridge.best().map_or(OWN, |chosen| chosen.port);
-    let samples = bridge.samples(chosen).copied().unwrap_or_default();
+    let back = pen.bridge().settings.back;
+    let samples = latches::followed(pen.bridge());
     let Some(newest) = samples.newest else {
         let departure = any_local(&mut pen.random);
         pen.send(port, departure, FRAME_LEN as u64);
         return;
     };
     let top = samples.both().and_then(|(older, newer)| {
-        let sent = |reach| {
-            let departure = moved(newer.local, i128::from(reach));
-            rules::sent_grand(older.point(), newer.point(), back, departure)
+        let unfit = |reach| {
+            let departure = moved(newer.local, reach);
+            !rules::fits_grand(rules::sent_grand(
+                older.point(),
+                newer.point(),
+                back,
+                departure,
+            ))
         };
-        first_unfit(sent)
+        latches::first_where(0, i128::from(REACH_END) - 1, unfit)
     });
     let reach = match (top, pen.random.below(10)) {
-        (Some(top), 0..=6) => i128::from(top) - pen.random.pick(&[0, 1, 1, 2]),
+        (Some(top), 0..=6) => top - pen.random.pick(&[0, 1, 1, 2]),
         (_, 0) => -1,
         (_, 1 | 2) => i128::from(REACH_END) - 1,
         (_, 3 | 4) => i128::from(REACH_END),
@@ -110,21 +113,11 @@ pub fn edge_send(pen: &mut Pen) {
     pen.send(port, departure, FRAME_LEN as u64);
 }
 
-/// Finds the first reach whose sent time does not fit, where there is one.
-fn first_unfit(sent: impl Fn(u64) -> i128) -> Option<u64> {
-    let (mut low, mut high) = (0, REACH_END);
-    if rules::fits_grand(sent(high - 1)) {
-        return None;
-    }
-    while low < high {
-        let middle = (low + high) / 2;
-        if rules::fits_grand(sent(middle)) {
-            low = middle + 1;
-        } else {
-            high = middle;
-        }
-    }
-    Some(low)
+/// Has a latch stamped that is aimed at the samples of the chosen clock.
+pub fn edge_stamp(pen: &mut Pen) {
+    let samples = latches::followed(pen.bridge());
+    let latch = latches::aimed(&mut pen.random, &samples);
+    pen.stamp(latch);
 }
 
 /// Ages with a time at the limit of one announcement.
@@ -272,7 +265,7 @@ pub fn wander(pen: &mut Pen) {
 pub fn any_call(pen: &mut Pen) {
     let port = any_port(pen);
     let time = any_local(&mut pen.random);
-    match pen.random.below(12) {
+    match pen.random.below(13) {
         0 => {
             let beyond = 1_u64 << pen.bridge().ports.len();
             let chance = pen.random.bits() >> pen.random.below(9);
@@ -300,6 +293,9 @@ pub fn any_call(pen: &mut Pen) {
             let mut line = Vec::new();
             spoil::nonsense(&mut pen.random, &mut line);
             pen.raw(&line);
+        }
+        10 => {
+            pen.stamp(time);
         }
         _ => play_frames(pen),
     }

@@ -3,7 +3,7 @@
 use super::random::Random;
 use super::spoil;
 use crate::frame::FRAME_LEN;
-use crate::hex;
+use crate::hex::{self, LOCAL_DIGITS};
 use crate::listing::LINE_DIGITS;
 
 /// In a thousand lines, how many are led by a spoiled copy.
@@ -17,43 +17,51 @@ const PORTS: u64 = 2;
 
 /// A maker of lines for the listing program.
 pub struct Lister {
-    random: Random,
+    pub(super) random: Random,
 }
 
 impl Default for Lister {
     /// Starts with a seed of its own.
     fn default() -> Self {
-        Lister {
-            random: Random::new(0),
-        }
+        Lister::seeded(0)
     }
 }
 
 impl Lister {
+    /// Starts with a seed.
+    pub(super) fn seeded(seed: u64) -> Self {
+        Lister {
+            random: Random::new(seed),
+        }
+    }
+
     /// Appends what a line gives, each line with its newline.
     pub fn put(&mut self, line: &[u8], out: &mut Vec<u8>) {
-        let Some((port, mut listed)) = arrival(line) else {
+        let Some((port, listed)) = arrival(line) else {
             return;
         };
         if port > PORTS && !self.random.often(BEYOND) {
             return;
         }
+        self.put_digits(listed, out);
+    }
+
+    /// Appends a line of digits, at times with small letters and at times after a spoiled copy.
+    pub(super) fn put_digits(&mut self, mut digits: Vec<u8>, out: &mut Vec<u8>) {
         if self.random.often(SMALL) {
-            listed.make_ascii_lowercase();
+            digits.make_ascii_lowercase();
         }
         if self.random.often(SPOILED) {
-            let mut spoiled = listed.clone();
+            let mut spoiled = digits.clone();
             self.spoil(&mut spoiled);
-            out.extend_from_slice(&spoiled);
-            out.push(b'\n');
+            put_line(&spoiled, out);
         }
-        out.extend_from_slice(&listed);
-        out.push(b'\n');
+        put_line(&digits, out);
     }
 
     /// Makes a line wrong in its length or in its digits.
     fn spoil(&mut self, line: &mut Vec<u8>) {
-        let place = self.random.below(LINE_DIGITS as u64) as usize;
+        let place = self.random.below(line.len() as u64) as usize;
         match self.random.below(8) {
             0 => line.clear(),
             1 => line.push(b'0'),
@@ -65,6 +73,12 @@ impl Lister {
             _ => line[place] = self.random.pick(b"0123456789abcdefABCDEF"),
         }
     }
+}
+
+/// Appends a line with its newline.
+pub(super) fn put_line(line: &[u8], out: &mut Vec<u8>) {
+    out.extend_from_slice(line);
+    out.push(b'\n');
 }
 
 /// Gives the port and a line of port, arrival and frame for the line of an arrival whose parts fit.
@@ -81,7 +95,7 @@ fn arrival(line: &[u8]) -> Option<(u64, Vec<u8>)> {
     }
     let mut listed = Vec::with_capacity(LINE_DIGITS);
     hex::put_number(&mut listed, u128::from(port), 2);
-    hex::put_number(&mut listed, u128::from(arrival), 12);
+    hex::put_number(&mut listed, u128::from(arrival), LOCAL_DIGITS);
     listed.extend_from_slice(frame);
     Some((port, listed))
 }

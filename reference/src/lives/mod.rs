@@ -3,13 +3,16 @@
 mod aimed;
 pub mod census;
 mod extras;
+pub(crate) mod latches;
 pub mod listed;
 mod network;
 mod pen;
 mod plans;
 mod random;
 mod spoil;
+pub mod stamped;
 
+use crate::bridge::Listed;
 use pen::Pen;
 use random::Random;
 use std::io;
@@ -19,10 +22,10 @@ const NETWORK_SHARE: u64 = 62;
 /// Of a hundred lives, how many are of frames aimed at the limits.
 const AIMED_SHARE: u64 = 28;
 
-/// A taker of each line and its answer.
-pub type Sink<'s> = &'s mut dyn FnMut(&[u8], &[u8]) -> io::Result<()>;
+/// A taker of each line, its answer and the bridge after it.
+pub type Sink<'s> = &'s mut dyn FnMut(&[u8], &[u8], &Listed) -> io::Result<()>;
 
-/// Makes lines from a seed and hands each with its answer to a sink.
+/// Makes lines from a seed and hands each with its answer and the bridge to a sink.
 pub fn lives(lines: u64, seed: u64, sink: Sink) -> io::Result<()> {
     let mut pen = Pen::new(lines, Random::new(seed), sink);
     extras::wander(&mut pen);

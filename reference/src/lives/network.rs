@@ -5,7 +5,7 @@ use super::pen::Pen;
 use super::plans;
 use super::random::Random;
 use super::spoil;
-use crate::answer::{DONE, NO_CLOCK, TOO_LATE};
+use crate::answer::{DONE, NO_CLOCK, NO_GRAND_TIME};
 use crate::bridge::Plan;
 use crate::frame::{self, Fields};
 use crate::port::Heard;
@@ -143,6 +143,9 @@ pub fn live(pen: &mut Pen) {
     }
     let plan = plans::good(&mut pen.random);
     pen.setup(&plan);
+    if pen.random.often(300) {
+        extras::edge_stamp(pen);
+    }
     let mut network = Network::around(&mut pen.random, &plan);
     let all = ((1_u16 << plan.ports) - 1) as u8;
     pen.links(all);
@@ -340,7 +343,7 @@ impl Network {
                 neighbour.hear(&fields, now + neighbour.link);
             }
         }
-        if (NO_CLOCK..=TOO_LATE).contains(&answer) {
+        if (NO_CLOCK..=NO_GRAND_TIME).contains(&answer) {
             neighbour.bridge_left = None;
         }
     }
@@ -369,6 +372,7 @@ impl Network {
                 pen.age(now);
             }
             45..=64 => extras::ask(pen),
+            65..=94 => extras::edge_stamp(pen),
             _ => {}
         }
     }

@@ -7,6 +7,7 @@ use crate::answer::{Answer, BAD_LINE};
 use crate::bridge::{Bridge, Listed, Plan};
 use crate::frame::{self, Fields, FRAME_LEN};
 use crate::hex;
+use crate::program::Program;
 use crate::replay::Replay;
 use std::io;
 
@@ -79,7 +80,7 @@ impl<'s> Pen<'s> {
 
     /// Appends a number, now and then with zeros before it.
     fn number(&mut self, number: u64) {
-        let needed = (64 - number.leading_zeros() as usize).div_ceil(4).max(1);
+        let needed = hex::digits_of(number);
         let digits = if self.random.often(PADDED) {
             self.random.within(needed as u64, hex::NUMBER_DIGITS as u64) as usize
         } else {
@@ -151,7 +152,7 @@ impl<'s> Pen<'s> {
         self.left -= 1;
         self.reply.clear();
         self.replay.answer(&self.line, &mut self.reply);
-        if let Err(failure) = (self.sink)(&self.line, &self.reply) {
+        if let Err(failure) = (self.sink)(&self.line, &self.reply, &self.replay.bridge) {
             self.failure = Some(failure);
             self.left = 0;
         }
@@ -269,6 +270,13 @@ impl<'s> Pen<'s> {
         self.play()
     }
 
+    /// Writes a latch to be stamped.
+    pub fn stamp(&mut self, latch: u64) -> Answer {
+        self.letter(b'E');
+        self.number(latch);
+        self.play()
+    }
+
     /// Writes a read of bytes.
     pub fn read(&mut self, bytes: &[u8]) -> Answer {
         self.letter(b'F');
@@ -304,8 +312,5 @@ impl<'s> Pen<'s> {
 
 /// Gives the number that a printed answer starts with.
 pub fn answer_of(reply: &[u8]) -> Answer {
-    reply
-        .get(..2)
-        .and_then(hex::number)
-        .map_or(BAD_LINE, |number| number as Answer)
+    reply.get(..2).and_then(hex::byte).unwrap_or(BAD_LINE)
 }
