@@ -5,8 +5,8 @@ use Rattle.times.specs.Times.{sinceOf, momentOf}
 use Rattle.samples.specs.Rate.{rateOf, scaledOf}
 use Rattle.line.specs.Line.{readingAt}
 use Rattle.recorder.specs.Stamp.{distanceOf}
-use Rattle.recorder.specs.Edges.{Row, table}
+use Rattle.recorder.specs.Edges.{Edge, edges}
 
-pub claim : map (λ (r : Row). r .got) table ≡ map (λ (r : Row). r .says) table
-unfolding table sinceOf momentOf rateOf scaledOf readingAt distanceOf
-claim = refl
+pub edges-hold : map (λ (e : Edge). e .got) edges ≡ map (λ (e : Edge). e .says) edges
+unfolding edges sinceOf momentOf rateOf scaledOf readingAt distanceOf
+edges-hold = refl

@@ -23,7 +23,7 @@ use Rattle.bridge.specs.Chosen.{chosenOf}
 use Rattle.bridge.specs.Send.{chosenSamples}
 use Rattle.bridge.specs.declared.Bridge.{Bridge}
 use Rattle.recorder.specs.Stamp.{latched, distanceOf, stampThrough, stampBy, stampOf}
-use Rattle.recorder.specs.Demands.{OnLine}
+use Rattle.recorder.specs.Demands.{StampOnLine}
 use Rattle.recorder.specs.declared.Stamped.the-variants.{At}
 use Rattle.numbers.proofs.Ring.{natAbs-neg, natAbs-*, same, split, sub-+, sub-*, sub-neg-is}
 use Rattle.times.proofs.TimeLaws.{moment-at}
@@ -42,7 +42,7 @@ chosen-ends b older newer h =
 near-alone : (a b : Sample) (z x : ℤ) → natAbs (pos (spreadOf a b) *ℤ z -ℤ lineAt a b x) < bound * spreadOf a b → NearLine a b z x 0
 near-alone a b z x h = rw (*ℤ-zero (pos (spreadOf a b)), +ℤ-idr (lineAt a b x)) h
 
-pub stamp-near : (b : Bridge) (latch : ℕ) (g : GrandTime) → Lawful b → stampOf b latch ≡ At g → OnLine b latch g
+pub stamp-near : (b : Bridge) (latch : ℕ) (g : GrandTime) → Lawful b → stampOf b latch ≡ At g → StampOnLine b latch g
 stamp-near b latch g h e =
     let r = read-off b latch g e in
     let x = distanceOf (latched latch) (r .newer .local) in

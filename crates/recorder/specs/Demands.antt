@@ -20,7 +20,7 @@ abbrev pub StampAnswers : Stamped → Type 0
 StampAnswers s = (stampNo s ≡ 0) ⊎ ((stampNo s ≡ 2) ⊎ From 10 13 (stampNo s))
 
 -- the oldest and the newest kept sample of the chosen clock, and that the grand time lies near the line through them, read at the latch
-pub record OnLine (b : Bridge) (latch : ℕ) (g : GrandTime) : Type 0 where
+pub record StampOnLine (b : Bridge) (latch : ℕ) (g : GrandTime) : Type 0 where
   pub older : Sample
   pub newer : Sample
   pub kept : endsOf (chosenSamples b) ≡ Both older newer

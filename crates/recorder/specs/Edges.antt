@@ -10,7 +10,7 @@ use Rattle.recorder.specs.declared.Stamped.{Stamped}
 use Rattle.recorder.specs.declared.Stamped.the-variants.{At, Refused}
 
 -- what the definitions give, and what the request says
-pub record Row : Type 0 where
+pub record Edge : Type 0 where
   pub got : Stamped
   pub says : Stamped
 
@@ -45,14 +45,14 @@ after ends n = stampThrough ends (latched (spread + n))
 abbrev before : Ends → ℕ → Stamped
 before ends n = stampThrough ends (latched (spread + circle - n))
 
-abbrev stamped : Stamped → ℕ → Row
+abbrev stamped : Stamped → ℕ → Edge
 stamped s n = record { got = s; says = At (grandOf n) }
 
-abbrev refused : Stamped → ℕ → Row
+abbrev refused : Stamped → ℕ → Edge
 refused s k = record { got = s; says = Refused k }
 
-unfoldable pub table : List Row
-table =
+unfoldable pub edges : List Edge
+edges =
     -- distance 0, 1, -1
     stamped (after steady 0) newer
     ∷ stamped (after steady 1) (newer + 1)

@@ -33,7 +33,7 @@ latched latch = record { 0 = latch }
 abbrev pub halfWay : ℕ
 halfWay = 2 ^ 47
 
--- a way of n round the circle from a local time to another, taken the nearer way: onwards, or from half way on back
+-- the way on from one local time to another is n: that way where it is less than half way round, else the way back
 abbrev pub nearerWay : ℕ → ℤ
 nearerWay n = cond (ltb n halfWay) (pos n) (pos n -ℤ pos circle)
 
@@ -47,7 +47,7 @@ distanceOf latch newer = nearerWay (sinceOf latch newer)
 abbrev pub tooFar : ℕ
 tooFar = tooLate
 
--- the grand time of a moment; 13 where there is none, which is below zero too
+-- the grand time of a moment; 13 where there is none: below zero, or from 2^80 on
 abbrev pub stampAs : Moment → Stamped
 stampAs (Moments.At g) = At g
 stampAs Moments.Beyond = Refused beyondRange

@@ -54,11 +54,11 @@ fn through(samples: Samples, latch: LocalTime) -> Stamped
     match kept::ends(samples) {
         Ends::Few => Stamped::Refused(refusals::FEW_SAMPLES),
         Ends::Both(oldest, newest) => {
-            let x = distance(latch, newest.local);
-            if LONGEST_REACH < whole::abs(x) {
+            let away = distance(latch, newest.local);
+            if LONGEST_REACH < whole::abs(away) {
                 return Stamped::Refused(TOO_FAR);
             }
-            match line::reading(oldest, newest, x, NOTHING_MORE) {
+            match line::reading(oldest, newest, away, NOTHING_MORE) {
                 Moment::At(time) => Stamped::At(time),
                 Moment::Beyond => Stamped::Refused(refusals::BEYOND_RANGE),
             }
