@@ -1,0 +1,2 @@
+pub mod DistanceLaws
+pub mod StampLaws

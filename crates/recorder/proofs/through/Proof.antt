@@ -1,0 +1,76 @@
+-- The stamp off two ends: at each return the case of the rule that the tests on the way left.
+use borrow.Author.Needs.{needs}
+use mathlib.Core.Path.{_≡_, sym, ap, _∙_}
+use native.Mathlib.Omega.{arith}
+use mir.Syntax.{w64}
+use mir.Val.{toZ, ofZ}
+use Prim.Native.Nat.{_≤_}
+use lib.IntN.{ℤ, natAbs, +ℤ-idr}
+use Rattle.times.specs.Times.{momentOf}
+use Rattle.samples.specs.Keep.{endsOf, LawfulEnds}
+use Rattle.samples.specs.declared.Sample.{Sample}
+use Rattle.samples.specs.declared.Ends.the-variants.{Both}
+use Rattle.line.specs.Line.{longestReach, InReach, readingAt}
+use Rattle.recorder.specs.Stamp.{distanceOf}
+use Rattle.numbers.proofs.Machine.{got}
+use Rattle.samples.proofs.KeepLaws.{ends-lawful}
+use Rattle.recorder.proofs.StampLaws.{reach-alone, through-ends, through-far, through-as}
+use Rattle.recorder.proofs.through.Statement.{statement}
+use Rattle.recorder.proofs.through.Tie as tie
+
+-- the two ends that the match finds
+abbrev oldest : tie.After-oldest → Sample
+oldest c = c .oldest .given .0 .0
+
+abbrev newest : tie.After-oldest → Sample
+newest c = c .oldest .given .0 .1 .0
+
+both : (c : tie.After-oldest) → Both (oldest c) (newest c) ≡ endsOf (c .before .before .before .args .samples)
+both c = sym (c .oldest .given .1) ∙ c .before .before .ends .ensures
+
+lawful : (c : tie.After-oldest) → LawfulEnds (oldest c) (newest c)
+lawful c = ends-lawful (c .before .before .before .args .samples) _ _ (c .before .before .before .pre) (sym (both c))
+
+-- the distance, as the next place reads it
+abbrev found : tie.After-abs → tie.After-oldest
+found c = c .before .before .before
+
+distance-is : (c : tie.After-abs) → toZ w64 (ofZ w64 (c .before .distance .result)) ≡ distanceOf (found c .before .before .before .args .latch) (newest (found c) .local)
+distance-is c = got (c .before .distance .ok) (c .before .distance .ensures)
+
+size-is : (c : tie.After-abs) → c .abs .result ≡ natAbs (distanceOf (found c .before .before .before .args .latch) (newest (found c) .local))
+size-is c = c .abs .ensures ∙ ap natAbs (distance-is c)
+
+returns : tie.Need-returns
+returns c = through-far _ (both (found (c .before))) (omega (arith, size-is (c .before), c .if1 .taken))
+
+within : (c : tie.After-reading) → natAbs (distanceOf (found (c .before .before) .before .before .before .args .latch) (newest (found (c .before .before)) .local)) ≤ longestReach
+within c = omega (arith, size-is (c .before .before), c .before .if1 .left)
+
+reading-requires : tie.Need-reading-requires
+reading-requires c κs =
+    (lawful (found (c .before)), rw (distance-is (c .before)) (reach-alone _ (omega (arith, size-is (c .before), c .if1 .left))))
+
+moment-is : (c : tie.After-reading) →
+    let m = found (c .before .before) in
+    c .reading .result ≡ momentOf (readingAt (oldest m) (newest m) (distanceOf (m .before .before .before .args .latch) (newest m .local)))
+moment-is c = c .reading .ensures ∙ rw (distance-is (c .before .before)) (ap momentOf (+ℤ-idr _))
+
+returns-2 : tie.Need-returns-2
+returns-2 c = through-ends _ (sym (c .enum-told .given .1) ∙ c .before .before .ends .ensures)
+
+returns-3 : tie.Need-returns-3
+returns-3 c =
+    let a = c .before .before .before in
+    through-as _ (both (found (a .before .before))) (within a) (sym (c .before .time .given .1) ∙ moment-is a)
+
+returns-4 : tie.Need-returns-4
+returns-4 c =
+    let a = c .before .before in
+    through-as _ (both (found (a .before .before))) (within a) (sym (c .enum-told2 .given .1) ∙ moment-is a)
+
+pub through-spec : {M : Type 1} → statement M
+through-spec =
+    tie.close
+    (tie.spec (λ c κs. search needs) (λ c. search needs) (λ c. search needs) (λ c κs. search needs) (λ c κs. search needs) returns
+    reading-requires (λ c. search needs) (λ c. search needs) returns-2 returns-3 returns-4)

@@ -1,0 +1,4 @@
+pub mod Stamp
+pub mod Promises
+pub mod Demands
+pub mod Edges

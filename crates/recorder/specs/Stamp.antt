@@ -1,0 +1,78 @@
+-- The stamp of a latch: the grand time of a local time that the recorder's front end latched when a wave arrived.
+use mathlib.Core.Bool.{cond}
+use mathlib.Core.Option.{Option, none, some}
+use Prim.Native.Nat.{ℕ, _^_}
+use lib.Dec.{ltb, leb}
+use lib.IntN.{ℤ, pos, natAbs, _-ℤ_}
+use Rattle.refusals.specs.Refusals.{done, outOfRange, noClock, fewSamples, tooLate, beyondRange}
+use Rattle.times.specs.Times.{circle, sinceOf, momentOf}
+use Rattle.times.specs.declared.LocalTime.{LocalTime}
+use Rattle.times.specs.declared.GrandTime.{GrandTime}
+use Rattle.times.specs.declared.Moment.{Moment}
+use Rattle.times.specs.declared.Moment.the-variants as Moments
+use Rattle.samples.specs.Keep.{endsOf}
+use Rattle.samples.specs.declared.Samples.{Samples}
+use Rattle.samples.specs.declared.Ends.{Ends}
+use Rattle.samples.specs.declared.Ends.the-variants.{Few, Both}
+use Rattle.line.specs.Line.{longestReach, readingAt}
+use Rattle.choice.specs.declared.Candidate.{Candidate}
+use Rattle.choice.specs.declared.Candidate.the-variants.{Nothing, Clock}
+use Rattle.bridge.specs.Chosen.{chosenOf}
+use Rattle.bridge.specs.Send.{chosenSamples}
+use Rattle.bridge.specs.declared.Bridge.{Bridge}
+use Rattle.recorder.specs.declared.Stamped.{Stamped}
+use Rattle.recorder.specs.declared.Stamped.the-variants.{At, Refused}
+
+-- a latch as a local time
+abbrev pub latched : ℕ → LocalTime
+latched latch = record { 0 = latch }
+
+-- ---- the distance
+
+-- half way round the circle of local time
+abbrev pub halfWay : ℕ
+halfWay = 2 ^ 47
+
+-- a way of n round the circle from a local time to another, taken the nearer way: onwards, or from half way on back
+abbrev pub nearerWay : ℕ → ℤ
+nearerWay n = cond (ltb n halfWay) (pos n) (pos n -ℤ pos circle)
+
+-- the latch less the newer sample, signed, the nearer way round: `distance-nearest` says that no other way is shorter
+unfoldable pub distanceOf : LocalTime → LocalTime → ℤ
+distanceOf latch newer = nearerWay (sinceOf latch newer)
+
+-- ---- the stamp
+
+-- the number of the refusal of a latch that lies too far from the newer sample: Send's number for a departure that does
+abbrev pub tooFar : ℕ
+tooFar = tooLate
+
+-- the grand time of a moment; 13 where there is none, which is below zero too
+abbrev pub stampAs : Moment → Stamped
+stampAs (Moments.At g) = At g
+stampAs Moments.Beyond = Refused beyondRange
+
+-- the line read at the latch: `stamp-formula` says that this is newer grand time + distance + floor(rate × distance / 2^35)
+abbrev pub stampThrough : Ends → LocalTime → Stamped
+stampThrough Few latch = Refused fewSamples
+stampThrough (Both a b) latch =
+    cond (leb (natAbs (distanceOf latch (b .local))) longestReach) (stampAs (momentOf (readingAt a b (distanceOf latch (b .local))))) (Refused tooFar)
+
+-- 10 where no clock is chosen; else by the samples of the chosen clock
+abbrev pub stampBy : Candidate → Samples → LocalTime → Stamped
+stampBy Nothing samples latch = Refused noClock
+stampBy (Clock precedence hop number) samples latch = stampThrough (endsOf samples) latch
+
+-- 2 first; any number may be given for the latch
+unfoldable pub stampOf : Bridge → ℕ → Stamped
+stampOf b latch = cond (ltb latch circle) (stampBy (chosenOf b) (chosenSamples b) (latched latch)) (Refused outOfRange)
+
+-- ---- the number of an answer, and the grand time that it carries
+
+abbrev pub stampNo : Stamped → ℕ
+stampNo (At g) = done
+stampNo (Refused k) = k
+
+abbrev pub stampTime : Stamped → Option GrandTime
+stampTime (At g) = some g
+stampTime (Refused k) = none
