@@ -1,9 +1,8 @@
 -- The lines of a capture, and what is printed for each: the answer, and the clock that is chosen then.
-use mathlib.Core.Bool.{Bool, false, cond}
+use mathlib.Core.Bool.{Bool, cond}
 use mathlib.Core.List.{List}
 use Prim.Native.Nat.{ℕ}
-use lib.Dec.{eqb}
-use lib.ListN.{length, getD, drop}
+use lib.ListN.{getD, drop}
 use Rattle.refusals.specs.Refusals.{badLine}
 use Rattle.numbers.specs.Digits.{numberAt}
 use Rattle.choice.specs.Choose.{shownPort, shownHop}
@@ -15,7 +14,7 @@ use Rattle.bridge.specs.Chosen.{chosenOf}
 use Rattle.bridge.specs.Receive.{receiveOf}
 use Rattle.bridge.specs.declared.Bridge.{Bridge}
 use Rattle.bridge.specs.declared.Done.{Done}
-use Rattle.hex.specs.Digit.{allDigits, pairs}
+use Rattle.hex.specs.Digit.{exactly, pairs}
 use Rattle.columns.specs.Columns.{line3}
 use Rattle.answer.specs.Answer.{Answer, says}
 
@@ -34,8 +33,8 @@ abbrev pub lineDigits : ℕ
 lineDigits = 142
 
 -- s is 142 digits
-unfoldable pub isLine : List ℕ → Bool
-isLine s = cond (eqb (length s) lineDigits) (allDigits s) false
+abbrev pub isLine : List ℕ → Bool
+isLine s = exactly lineDigits s
 
 -- an answer, with the port and the held hop of the clock that is chosen then
 abbrev pub listedText : ℕ → Candidate → List ℕ

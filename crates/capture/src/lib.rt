@@ -5,7 +5,7 @@ ghost use lib.ListN.{length};
 ghost use Rattle.bridge.specs.State.{Lawful};
 ghost use Rattle.columns.specs.Columns.{longestAnswer, Prints};
 ghost use Rattle.answer.specs.Answer.{Says};
-ghost use Rattle.capture.specs.Capture.{isLine, startOf, listedText, listedOf};
+ghost use Rattle.capture.specs.Capture.{startOf, listedText, listedOf};
 use answer::Answered;
 use bridge::Bridge;
 use choice::Candidate;
@@ -55,23 +55,13 @@ fn listed(choice: Candidate, answer: u8, out: &mut [u8]) -> usize
     columns::three(out, answer, port, hop)
 }
 
-// Whether a text is 142 digits.
-fn is_line(text: &[u8]) -> bool
-    ensures { λ r. ⌜ r ≡ isLine (now (text .entry)) ⌝ }
-{
-    if text.len() == LINE_DIGITS {
-        return digits::all(text);
-    }
-    false
-}
-
 // The state after a line, and what is printed for it in out.
 pub fn answer_line(b: Bridge, text: &[u8], out: &mut [u8]) -> Answered
     requires { ⌜ Lawful b ⌝ }
     requires { ⌜ longestAnswer ≤ length (now out) ⌝ }
     ensures { λ r. ⌜ Says (listedOf b (now (text .entry))) r (now (out .entry)) (now (out .exit)) ⌝ }
 {
-    if !is_line(text) {
+    if !digits::exactly(text, LINE_DIGITS) {
         return Answered {
             next: b,
             len: listed(bridge::chosen(b), refusals::BAD_LINE, out),

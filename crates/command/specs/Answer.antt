@@ -33,12 +33,15 @@ use Rattle.bridge.specs.declared.Done.{Done}
 use Rattle.bridge.specs.declared.Linked.{Linked}
 use Rattle.bridge.specs.declared.LinkCount.{LinkCount}
 use Rattle.bridge.specs.declared.LinkCount.the-variants.{Refused as beyond, Up}
+use Rattle.recorder.specs.Stamp.{stampOf, stampNo}
+use Rattle.recorder.specs.declared.Stamped.{Stamped}
+use Rattle.recorder.specs.declared.Stamped.the-variants.{At, Refused as unstamped}
 use Rattle.columns.specs.Columns.{columnsText, bytesLine, line1, line2, lineWith}
 use Rattle.hex.specs.Character.{space, newline}
 use Rattle.fields.specs.Form.{formOf}
 use Rattle.fields.specs.declared.Form.{Form}
 use Rattle.answer.specs.Answer.{Answer, says, badText, refusedLine, doneSays}
-use Rattle.command.specs.Row.{letterS, letterL, letterO, letterR, letterA, letterC, letterT, letterD, letterF, letterW, letterB, rowOf}
+use Rattle.command.specs.Row.{letterS, letterL, letterO, letterR, letterA, letterC, letterT, letterD, letterF, letterW, letterB, letterE, rowOf}
 use Rattle.command.specs.Argument.{numberIn, byteIn, sizeIn, setupIn, fieldsIn, untouched}
 
 -- ---- the calls that change the state
@@ -102,9 +105,17 @@ pieceOf Second a b = take precedenceBytes (drop precedenceStart b)
 unfoldable pub betterText : List ℕ → List ℕ → List ℕ
 betterText a b = bytesLine (pieceOf (winnerOf (standingOf a) (standingOf b)) a b)
 
+-- how many bytes each column of a stamp has; 0 is a character
+abbrev pub stampWidths : List ℕ
+stampWidths = 1 ∷ 0 ∷ 5 ∷ 5 ∷ 0 ∷ []
+
+abbrev pub stampedText : Stamped → List ℕ
+stampedText (At g) = columnsText stampWidths (stampNo (At g) ∷ space ∷ g .0 ∷ g .1 ∷ newline ∷ [])
+stampedText (unstamped k) = line1 (stampNo (unstamped k))
+
 -- ---- the letter's call
 
--- C, D, F, W, B: what is printed
+-- C, D, F, W, B, E: what is printed
 unfoldable pub askedText : ℕ → Bridge → Form → List ℕ
 askedText letter b f =
     cond (eqb letter letterC) (chosenText (chosenOf b))
@@ -112,7 +123,8 @@ askedText letter b f =
     (cond (eqb letter letterF) (readText (readOf (take (sizeIn f 0) (f .bytes))))
     (cond (eqb letter letterW) (writeText (fieldsIn f) (untouched (sizeIn f 10)))
     (cond (eqb letter letterB) (betterText (take (sizeIn f 0) (f .bytes)) (take (sizeIn f 1) (drop (sizeIn f 0) (f .bytes))))
-    badText))))
+    (cond (eqb letter letterE) (stampedText (stampOf b (numberIn f 0)))
+    badText)))))
 
 -- S, L, O, R, A, T, and those
 unfoldable pub callOf : ℕ → Bridge → Form → Answer
@@ -128,7 +140,7 @@ callOf letter b f =
 -- ---- a line
 
 -- the longest line that can be one, B with two frames of 128 bytes: the letter, and twice a space and 256 digits.
--- The others have at most, with every number at its 16 digits: S 230, L 18, O 69, R 292, A 18, C 1, T 52, D 18, F 258, W 186
+-- The others have at most, with every number at its 16 digits: S 230, L 18, O 69, R 292, A 18, C 1, T 52, D 18, F 258, W 186, E 18
 abbrev pub longestLine : ℕ
 longestLine = 515
 

@@ -41,6 +41,9 @@ letterW = 87
 abbrev pub letterB : ℕ
 letterB = 66
 
+abbrev pub letterE : ℕ
+letterE = 69
+
 -- just the bytes of an address, of a precedence, of an errorTime
 abbrev pub ADDRESS : ℕ
 ADDRESS = EXACTLY + 6
@@ -74,4 +77,5 @@ rowOf letter =
     (cond (eqb letter letterF) (row (BYTES ∷ []))
     (cond (eqb letter letterW) (row (ADDRESS ∷ PRECEDENCE ∷ BYTE ∷ BYTE ∷ NUMBER ∷ NUMBER ∷ NUMBER ∷ NUMBER ∷ NUMBER ∷ ERROR ∷ LENGTH ∷ []))
     (cond (eqb letter letterB) (row (BYTES ∷ BYTES ∷ []))
-    (row []))))))))))
+    (cond (eqb letter letterE) (row (NUMBER ∷ []))
+    (row [])))))))))))

@@ -53,6 +53,7 @@ fn asked(b: Bridge, letter: u8, form: Form, out: &mut [u8]) -> usize
         b'F' => questions::read(form, out),
         b'W' => questions::write(form, out),
         b'B' => questions::better(form, out),
+        b'E' => questions::stamp(b, form, out),
         _ => columns::one(out, refusals::BAD_LINE),
     }
 }

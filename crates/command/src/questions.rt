@@ -10,11 +10,12 @@ ghost use Rattle.frame.specs.Read.{readOf};
 ghost use Rattle.bridge.specs.State.{Lawful};
 ghost use Rattle.bridge.specs.Chosen.{chosenOf};
 ghost use Rattle.bridge.specs.Drift.{driftAt};
+ghost use Rattle.recorder.specs.Stamp.{stampOf};
 ghost use Rattle.fields.specs.Field.{mostLength};
 ghost use Rattle.fields.specs.Form.{bufferBytes};
 ghost use Rattle.columns.specs.Columns.{longestAnswer, lineWith, Prints};
-ghost use Rattle.command.specs.Argument.{byteIn, sizeIn, fieldsIn, untouched};
-ghost use Rattle.command.specs.Answer.{chosenText, IsNumber, driftText, fieldValues, readText, writeText, betterText};
+ghost use Rattle.command.specs.Argument.{numberIn, byteIn, sizeIn, fieldsIn, untouched};
+ghost use Rattle.command.specs.Answer.{chosenText, IsNumber, driftText, fieldValues, readText, writeText, betterText, stampedText};
 use crate::arguments;
 use crate::changes;
 use bridge::Bridge;
@@ -30,6 +31,7 @@ use frame::better;
 use frame::read;
 use frame::write;
 use line::Drift;
+use recorder::Stamped;
 
 // `C`.
 pub fn chosen(b: Bridge, out: &mut [u8]) -> usize
@@ -201,4 +203,31 @@ pub fn better(form: Form, out: &mut [u8]) -> usize
     let bytes = form.bytes;
     let all = &bytes[..];
     columns::only_bytes(out, better::better(&all[..n], &all[n..end]))
+}
+
+// The columns of a stamp.
+const STAMP_WIDTHS: [usize; 5] = [BYTE, CHARACTER, 5, 5, CHARACTER];
+
+// Prints a stamp after the answer 0, or the refusal.
+fn stamped(stamp: Stamped, out: &mut [u8]) -> usize
+    requires { ⌜ longestAnswer ≤ length (now out) ⌝ }
+    ensures { λ r. ⌜ Prints (stampedText stamp) r (now (out .entry)) (now (out .exit)) ⌝ }
+{
+    match stamp {
+        Stamped::At(time) => columns::line(
+            out,
+            &STAMP_WIDTHS,
+            &[refusals::DONE as u64, SPACE, time.0, time.1, NEWLINE],
+        ),
+        Stamped::Refused(no) => columns::one(out, no),
+    }
+}
+
+// `E latch`.
+pub fn stamp(b: Bridge, form: Form, out: &mut [u8]) -> usize
+    requires { ⌜ Lawful b ⌝ }
+    requires { ⌜ longestAnswer ≤ length (now out) ⌝ }
+    ensures { λ r. ⌜ Prints (stampedText (stampOf b (numberIn form 0))) r (now (out .entry)) (now (out .exit)) ⌝ }
+{
+    stamped(recorder::stamp(b, form.numbers[0]), out)
 }

@@ -92,6 +92,7 @@ pub fn row(letter: u8) -> [u8; 15]
             END,
         ],
         b'B' => short(BYTES, BYTES, END, END),
+        b'E' => short(NUMBER, END, END, END),
         _ => [END; 15],
     }
 }

@@ -1,6 +1,6 @@
--- Laws of digits: the value in each range of characters, and one character more for each loop.
+-- Laws of digits: the value in each range of characters, how long a text of n digits is, and one character more for each loop.
 use mathlib.Core.Path.{_≡_, refl, sym, ap, _∙_}
-use mathlib.Core.Bool.{Bool, true, false, cond}
+use mathlib.Core.Bool.{Bool, true, false, cond, true≢false}
 use Prim.Native.Nat.{ℕ, zero, suc, _+_, _*_, _-_, _%_, _^_, _<_, _≤_}
 use mathlib.Core.List.{List, [], _∷_, _++_, append-nil}
 use native.Mathlib.Numerals.{add-one}
@@ -8,11 +8,12 @@ use native.Mathlib.Nat.{pow-suc, pow-le-pow-right, lt-of-lt-of-le, lt-of-not-le}
 use native.Mathlib.Decide.{decLe}
 use native.Mathlib.Omega.{arith}
 use lib.Arith.{digits-lt}
-use lib.Dec.{ltb, lit<}
+use lib.Dec.{eqb, ltb, lit<}
 use lib.ListN.{length, take, drop, getD, set}
 use lib.Seq.{drop-cons, take-suc, set-at, length-take-le, append-snoc, take-length, drop-length}
-use borrow.Author.Tests.{le-leb, lt-leb, lt-ltb, le-ltb}
-use Rattle.hex.specs.Digit.{noDigit, within, valueOf, isDigit, allDigits, worth, byteOf, pairs}
+use borrow.Author.Tests.{le-leb, lt-leb, lt-ltb, le-ltb, eqb-true, ne-eqb}
+use Rattle.numbers.proofs.Branches.{if-false}
+use Rattle.hex.specs.Digit.{noDigit, within, valueOf, isDigit, allDigits, exactly, worth, byteOf, pairs}
 
 -- ---- the value of a character
 
@@ -42,6 +43,22 @@ value-small c h k = rw (outside 48 57 c (λ l m. omega arith), outside 65 70 c (
 pub value-none : (c : ℕ) → (48 ≤ c → c ≤ 57 → ⊥) → (65 ≤ c → c ≤ 70 → ⊥) → (97 ≤ c → c ≤ 102 → ⊥) → valueOf c ≡ noDigit
 unfolding valueOf
 value-none c f g h = rw (outside 48 57 c f, outside 65 70 c g, outside 97 102 c h)
+
+-- ---- a text of n digits
+
+-- is n characters long
+pub exactly-length : (n : ℕ) (s : List ℕ) → exactly n s ≡ true → length s ≡ n
+unfolding exactly
+exactly-length n s = by (eqb (length s) n) refl
+  where
+    by : (t : Bool) → eqb (length s) n ≡ t → cond t (allDigits s) false ≡ true → length s ≡ n
+    by true k e = eqb-true _ _ k
+    by false k e = absurd (true≢false (sym e))
+
+-- and a longer text is none
+pub exactly-long : (n : ℕ) (s : List ℕ) → n < length s → exactly n s ≡ false
+unfolding exactly
+exactly-long n s h = sym (if-false _ _ _ (ne-eqb _ _ (λ (e : length s ≡ n). omega arith)))
 
 -- ---- the loops
 

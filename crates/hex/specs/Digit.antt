@@ -2,7 +2,8 @@
 use Prim.Native.Nat.{ℕ, _+_, _*_, _-_, _%_}
 use mathlib.Core.Bool.{Bool, true, false, cond}
 use mathlib.Core.List.{List, [], _∷_}
-use lib.Dec.{ltb, leb}
+use lib.Dec.{eqb, ltb, leb}
+use lib.ListN.{length}
 
 -- what stands for the value of a character that is no digit
 abbrev pub noDigit : ℕ
@@ -49,6 +50,10 @@ isDigit c = ltb (valueOf c) noDigit
 unfoldable pub allDigits : List ℕ → Bool
 allDigits [] = true
 allDigits (c ∷ s) = cond (isDigit c) (allDigits s) false
+
+-- s is n digits
+unfoldable pub exactly : ℕ → List ℕ → Bool
+exactly n s = cond (eqb (length s) n) (allDigits s) false
 
 -- the number that the digits s make where they follow those of v
 unfoldable pub worth : ℕ → List ℕ → ℕ

@@ -4,7 +4,7 @@ ghost use Prim.Native.Nat.{_*_, _%_, _<_, _≤_};
 ghost use mathlib.Core.Bool.{cond};
 ghost use lib.Dec.{ltb};
 ghost use lib.ListN.{length};
-ghost use Rattle.hex.specs.Digit.{valueOf, allDigits, worth, byteOf, pairs};
+ghost use Rattle.hex.specs.Digit.{valueOf, allDigits, exactly, worth, byteOf, pairs};
 ghost use Rattle.hex.specs.Print.{capitalOf};
 
 // The base, and the first value that is a letter.
@@ -68,6 +68,16 @@ pub fn all(text: &[u8]) -> bool
         i += 1;
     }
     greatest < NO_DIGIT
+}
+
+// Whether a text is n digits.
+pub fn exactly(text: &[u8], n: usize) -> bool
+    ensures { λ r. ⌜ r ≡ exactly n (now (text .entry)) ⌝ }
+{
+    if text.len() == n {
+        return all(text);
+    }
+    false
 }
 
 // The value of a digit as a wider number.

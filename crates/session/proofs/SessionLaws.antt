@@ -18,9 +18,10 @@ use Rattle.command.specs.Answer.{longestLine}
 use Rattle.session.specs.Session.{keptBytes, part, answerBy, Fed, left, saying, ended, fedOf, keptText}
 use Rattle.hex.specs.Character.{newline}
 use Rattle.session.specs.declared.Program.{Program}
-use Rattle.session.specs.declared.Program.the-variants.{Listing, Replay}
+use Rattle.session.specs.declared.Program.the-variants.{Listing, Replay, Stamps}
 use Rattle.hex.proofs.SearchLaws.{up-taken}
 use Rattle.capture.proofs.CaptureLaws.{listed-long}
+use Rattle.latch.proofs.LatchLaws.{latch-long}
 use Rattle.command.proofs.AnswerLaws.{answer-long}
 
 -- ---- lists
@@ -183,10 +184,12 @@ module _ (p : Program) where
   abbrev badBy : Program → Bridge → Answer
   badBy Listing b = listedAs b badNumber
   badBy Replay b = refusedLine b
+  badBy Stamps b = listedAs b badNumber
 
   long-answer : (p : Program) (b : Bridge) (s : List ℕ) → longestLine < length s → badBy p b ≡ answerBy p b s
   long-answer Listing b s h = listed-long b s (omega arith)
   long-answer Replay b s h = answer-long b s h
+  long-answer Stamps b s h = listed-long b s (omega arith) ∙ latch-long b s (omega arith)
 
   -- so what is kept of a line is answered as the whole line is
   pub kept-answers : (b : Bridge) (line : List ℕ) → answerBy p b (take keptBytes line) ≡ answerBy p b line

@@ -11,9 +11,10 @@ use Rattle.bridge.specs.Setup.{noBridge}
 use Rattle.bridge.specs.declared.Bridge.{Bridge}
 use Rattle.answer.specs.Answer.{Answer}
 use Rattle.capture.specs.Capture.{startOf, listedOf}
+use Rattle.latch.specs.Latch.{latchedOf}
 use Rattle.command.specs.Answer.{longestLine, answerOf}
 use Rattle.session.specs.declared.Program.{Program}
-use Rattle.session.specs.declared.Program.the-variants.{Listing, Replay}
+use Rattle.session.specs.declared.Program.the-variants.{Listing, Replay, Stamps}
 use Rattle.session.specs.declared.Session.{Session}
 use Rattle.session.specs.declared.Progress.{Progress}
 
@@ -31,11 +32,13 @@ part bytes from to = take (to - from) (drop from bytes)
 abbrev pub answerBy : Program → Bridge → List ℕ → Answer
 answerBy Listing b s = listedOf b s
 answerBy Replay b s = answerOf b s
+answerBy Stamps b s = latchedOf b s
 
 -- and its bridge before the first
 abbrev pub startBy : Program → Bridge
 startBy Listing = startOf
 startBy Replay = noBridge
+startBy Stamps = startOf
 
 -- ---- lines one after the other
 

@@ -16,6 +16,7 @@ use hex::search;
 pub enum Program {
     Listing,
     Replay,
+    Stamps,
 }
 
 // What ends a line.
@@ -53,6 +54,7 @@ fn first_bridge(program: Program) -> Bridge
     match program {
         Program::Listing => capture::start(),
         Program::Replay => command::start(),
+        Program::Stamps => capture::start(),
     }
 }
 
@@ -78,6 +80,7 @@ fn answer_line(program: Program, b: Bridge, text: &[u8], out: &mut [u8]) -> Answ
     match program {
         Program::Listing => capture::answer_line(b, text, out),
         Program::Replay => command::answer_line(b, text, out),
+        Program::Stamps => latch::answer_line(b, text, out),
     }
 }
 

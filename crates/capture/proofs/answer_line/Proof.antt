@@ -8,8 +8,9 @@ use lib.Seq.{take-all}
 use Rattle.bridge.specs.Receive.{receiveOf}
 use Rattle.capture.specs.Capture.{listedText, capturedFrom}
 use Rattle.bridge.proofs.PromiseLaws.{done-is}
+use Rattle.hex.proofs.DigitLaws.{exactly-length}
 use Rattle.answer.proofs.AnswerLaws.{as-says, as-prints}
-use Rattle.capture.proofs.CaptureLaws.{line-length, listed-bad, listed-done}
+use Rattle.capture.proofs.CaptureLaws.{listed-bad, listed-done}
 use Rattle.capture.proofs.answer_line.Statement.{statement}
 use Rattle.capture.proofs.answer_line.Tie as tie
 
@@ -19,13 +20,13 @@ returns c =
     let h = t .before .before in
     let l = h .before .before in
     let s = l .before .before .before in
-    as-says (listed-bad (s .args .b) (s .args .text .now) (sym (l .is-line .ensures) ∙ not-true _ (h .before .if1 .taken)))
+    as-says (listed-bad (s .args .b) (s .args .text .now) (sym (l .exactly .ensures) ∙ not-true _ (h .before .if1 .taken)))
     (record { state = refl; prints = as-prints (ap (listedText _) (h .chosen .ensures .answer)) (t .listed .ensures); lawful = s .pre .0 })
 
 bytes-requires : tie.Need-bytes-requires
 bytes-requires c κs =
     let i = c .before in
-    line-length _ (sym (i .before .is-line .ensures) ∙ not-false _ (i .if1 .left))
+    exactly-length _ _ (sym (i .before .exactly .ensures) ∙ not-false _ (i .if1 .left))
 
 returns-2 : tie.Need-returns-2
 returns-2 c =
@@ -41,7 +42,7 @@ returns-2 c =
     let x = y .bytes .last .1 .0 in
     let whole : take 64 (drop 7 x) ≡ drop 7 x = take-all 64 (drop 7 x) (rw (length-drop 7 x) (omega (arith, y .bytes .kept .1 .0))) in
     let done = done-is (r .receive .ensures) ∙ (λ j. receiveOf b (getD x 0 0) (whole j) (a .number-at .ensures .0 j)) ∙ ap (capturedFrom b) (y .bytes .ensures) in
-    as-says (listed-done b (s .args .text .now) (r .receive .result) (sym (l .is-line .ensures) ∙ not-false _ (i .if1 .left)) done)
+    as-says (listed-done b (s .args .text .now) (r .receive .result) (sym (l .exactly .ensures) ∙ not-false _ (i .if1 .left)) done)
     (record { state = refl; prints = as-prints (ap (listedText _) (h .chosen2 .ensures .answer)) (t .listed2 .ensures); lawful = r .receive .ensures .lawful })
 
 pub answer-line-spec : {M : Type 1} → statement M

@@ -6,18 +6,19 @@ use Rattle.command.proofs.asked.Statement.{statement}
 use Rattle.command.proofs.asked.Tie as tie
 
 -- no call's letter
-rest : tie.Need-returns-6
+rest : tie.Need-returns-7
 unfolding askedText
 rest c =
     let a = c .before .before in
     let n = a .before .before .match .rest in
-    rw (ne-eqb _ _ (n .0 .0 .0 .0 .1), ne-eqb _ _ (n .0 .0 .0 .1), ne-eqb _ _ (n .0 .0 .1), ne-eqb _ _ (n .0 .1), ne-eqb _ _ (n .1)) (a .one .ensures)
+    rw (ne-eqb _ _ (n .0 .0 .0 .0 .0 .1), ne-eqb _ _ (n .0 .0 .0 .0 .1), ne-eqb _ _ (n .0 .0 .0 .1), ne-eqb _ _ (n .0 .0 .1), ne-eqb _ _ (n .0 .1), ne-eqb _ _ (n .1)) (a .one .ensures)
 
 pub asked-spec : {M : Type 1} → statement M
 unfolding askedText
 asked-spec =
     tie.close
     (tie.spec
+    (λ c κs. search needs)
     (λ c κs. search needs)
     (λ c κs. search needs)
     (λ c κs. search needs)
@@ -34,5 +35,7 @@ asked-spec =
     (λ c. rw (c .before .before .before .before .match .keys4) (c .before .before .write .ensures))
     (λ c. search needs)
     (λ c. rw (c .before .before .before .before .match .keys5) (c .before .before .better .ensures))
+    (λ c. search needs)
+    (λ c. rw (c .before .before .before .before .match .keys6) (c .before .before .stamp .ensures))
     (λ c. search needs)
     rest)

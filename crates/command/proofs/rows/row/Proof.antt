@@ -7,17 +7,18 @@ use Rattle.command.proofs.rows.row.Statement.{statement}
 use Rattle.command.proofs.rows.row.Tie as tie
 
 -- no call's letter
-rest : tie.Need-returns-11
+rest : tie.Need-returns-12
 unfolding rowOf
 rest c =
     let n = c .match .rest in
-    rw (ne-eqb _ _ (n .0 .0 .0 .0 .0 .0 .0 .0 .0 .1), ne-eqb _ _ (n .0 .0 .0 .0 .0 .0 .0 .0 .1), ne-eqb _ _ (n .0 .0 .0 .0 .0 .0 .0 .1), ne-eqb _ _ (n .0 .0 .0 .0 .0 .0 .1), ne-eqb _ _ (n .0 .0 .0 .0 .0 .1), ne-eqb _ _ (n .0 .0 .0 .0 .1), ne-eqb _ _ (n .0 .0 .0 .1), ne-eqb _ _ (n .0 .0 .1), ne-eqb _ _ (n .0 .1), ne-eqb _ _ (n .1))
+    rw (ne-eqb _ _ (n .0 .0 .0 .0 .0 .0 .0 .0 .0 .0 .1), ne-eqb _ _ (n .0 .0 .0 .0 .0 .0 .0 .0 .0 .1), ne-eqb _ _ (n .0 .0 .0 .0 .0 .0 .0 .0 .1), ne-eqb _ _ (n .0 .0 .0 .0 .0 .0 .0 .1), ne-eqb _ _ (n .0 .0 .0 .0 .0 .0 .1), ne-eqb _ _ (n .0 .0 .0 .0 .0 .1), ne-eqb _ _ (n .0 .0 .0 .0 .1), ne-eqb _ _ (n .0 .0 .0 .1), ne-eqb _ _ (n .0 .0 .1), ne-eqb _ _ (n .0 .1), ne-eqb _ _ (n .1))
 
 pub row-spec : {M : Type 1} → statement M
 unfolding rowOf
 row-spec =
     tie.close
     (tie.spec
+    (λ c κs. search needs)
     (λ c κs. search needs)
     (λ c κs. search needs)
     (λ c κs. search needs)
@@ -36,4 +37,5 @@ row-spec =
     (λ c. c .short7 .ensures ∙ ap rowOf (sym (c .before .match .keys8)))
     (λ c. ap rowOf (sym (c .match .keys9)))
     (λ c. c .short8 .ensures ∙ ap rowOf (sym (c .before .match .keys10)))
+    (λ c. c .short9 .ensures ∙ ap rowOf (sym (c .before .match .keys11)))
     rest)
