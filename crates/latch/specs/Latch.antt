@@ -2,7 +2,6 @@
 use mathlib.Core.Bool.{Bool, cond}
 use mathlib.Core.List.{List, [], _∷_}
 use Prim.Native.Nat.{ℕ}
-use Rattle.times.specs.declared.GrandTime.{GrandTime}
 use Rattle.bridge.specs.declared.Bridge.{Bridge}
 use Rattle.recorder.specs.Stamp.{stampOf, stampNo}
 use Rattle.recorder.specs.declared.Stamped.{Stamped}
