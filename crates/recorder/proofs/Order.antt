@@ -31,21 +31,18 @@ use Rattle.recorder.proofs.Near.{chosen-ends}
 
 -- ---- a reading farther on is no earlier
 
--- z is m times its floor and a rest below m
-record Divided (z : ℤ) (m : ℕ) : Type 0 where
-  pub rest : ℕ
-  pub small : rest < m
-  pub whole : z ≡ pos m *ℤ floorDiv z m +ℤ pos rest
+-- z is m times its floor, and a rest below m
+divided : (z : ℤ) (m : ℕ) → 0 < m → (rest : ℕ) × (rest < m) × (z ≡ pos m *ℤ floorDiv z m +ℤ pos rest)
+divided (pos n) m h = (n % m, mod-lt n h, ap pos (sym (div-add-mod n m)))
+divided (negsuc n) m h =
+    let k = m * suc (n / m) in
+    let rest = m - suc (n % m) in
+    (rest, omega arith, rw (of-neg n, neg-pos k, of-pos rest, sub-+ 0 k rest 0) (same 0 (suc n) (0 + rest) (k + 0) (omega (arith, div-add-mod n m, mod-lt n h))))
 
-divided : (z : ℤ) (m : ℕ) → 0 < m → Divided z m
-divided (pos n) m h = record { rest = n % m; small = mod-lt n h; whole = ap pos (sym (div-add-mod n m)) }
-divided (negsuc n) m h = record {
-  rest = m - suc (n % m);
-  small = omega arith;
-  whole =
-      rw (of-neg n, neg-pos (m * suc (n / m)), of-pos (m - suc (n % m)), sub-+ 0 (m * suc (n / m)) (m - suc (n % m)) 0)
-      (same 0 (suc n) (0 + (m - suc (n % m))) (m * suc (n / m) + 0) (omega (arith, div-add-mod n m, mod-lt n h)));
-}
+-- so a stretch is scaled downwards
+scaled-down : (rate x : ℤ) → (rest : ℕ) × (rest < parts) × (rate *ℤ x ≡ pos parts *ℤ scaledOf rate x +ℤ pos rest)
+unfolding scaledOf
+scaled-down rate x = divided (rate *ℤ x) parts (omega arith)
 
 -- k times t is a less c, and c is less than k: t is not below zero
 not-below : (t : ℤ) (k a c : ℕ) → c < k → pos k *ℤ t ≡ subℕ a c → (m : ℕ) × (t ≡ pos m)
@@ -63,22 +60,22 @@ forward (negsuc k) h = (parts - suc k, of-pos (parts - suc k) ∙ same (parts - 
 
 -- n farther on, a clock's grand time moves on by a natural number
 advance-on : (rate x : ℤ) (n : ℕ) → natAbs rate ≤ steepest → (m : ℕ) × (advanceOf rate (x +ℤ pos n) ≡ advanceOf rate x +ℤ pos m)
-unfolding scaledOf
 advance-on rate x n h =
     let y = x +ℤ pos n in
-    let q = floorDiv (rate *ℤ x) parts in
-    let r = floorDiv (rate *ℤ y) parts in
-    let d = divided (rate *ℤ x) parts (omega arith) in
-    let e = divided (rate *ℤ y) parts (omega arith) in
+    let q = scaledOf rate x in
+    let r = scaledOf rate y in
+    let d = scaled-down rate x in
+    let e = scaled-down rate y in
     let f = forward rate h in
+    let off = pos (d .0) -ℤ pos (e .0) in
     let t = pos n +ℤ (r -ℤ q) in
-    let moved : pos parts *ℤ t ≡ subℕ (f .0 * n + d .rest) (e .rest) =
-    rounded (pos parts) (pos n) q r (pos (d .rest)) (pos (e .rest))
-    ∙ sym (λ i. pos parts *ℤ pos n +ℤ (e .whole i -ℤ d .whole i) +ℤ (pos (d .rest) -ℤ pos (e .rest)))
-    ∙ exact (pos parts) rate x (pos n) (pos (d .rest)) (pos (e .rest))
-    ∙ ap (λ (z : ℤ). z *ℤ pos n +ℤ (pos (d .rest) -ℤ pos (e .rest))) (sym (f .1))
-    ∙ gathered (f .0 * n) (d .rest) (e .rest) in
-    let m = not-below t parts (f .0 * n + d .rest) (e .rest) (e .small) moved in
+    let moved : pos parts *ℤ t ≡ subℕ (f .0 * n + d .0) (e .0) =
+    rounded (pos parts) (pos n) q r (pos (d .0)) (pos (e .0))
+    ∙ sym (λ i. pos parts *ℤ pos n +ℤ (e .2 i -ℤ d .2 i) +ℤ off)
+    ∙ exact (pos parts) rate x (pos n) off
+    ∙ ap (λ (z : ℤ). z *ℤ pos n +ℤ off) (sym (f .1))
+    ∙ gathered (f .0 * n) (d .0) (e .0) in
+    let m = not-below t parts (f .0 * n + d .0) (e .0) (e .1) moved in
     (m .0, regrouped x (pos n) q r ∙ ap (λ (z : ℤ). x +ℤ q +ℤ z) (m .1))
   where
     -- both floors are off by their rests
@@ -86,9 +83,10 @@ advance-on rate x n h =
     rounded p n q r d e =
         rw (split p, split n, split q, split r, split d, split e) (simp (sub-+, sub-*, sub-neg-is) (omega (arith, same)))
 
-    exact : (p rate x n d e : ℤ) → p *ℤ n +ℤ (rate *ℤ (x +ℤ n) -ℤ rate *ℤ x) +ℤ (d -ℤ e) ≡ (p +ℤ rate) *ℤ n +ℤ (d -ℤ e)
-    exact p rate x n d e =
-        rw (split p, split rate, split x, split n, split d, split e) (simp (sub-+, sub-*, sub-neg-is) (omega (arith, same)))
+    -- one whole and the rate, n times
+    exact : (p rate x n off : ℤ) → p *ℤ n +ℤ (rate *ℤ (x +ℤ n) -ℤ rate *ℤ x) +ℤ off ≡ (p +ℤ rate) *ℤ n +ℤ off
+    exact p rate x n off =
+        rw (split p, split rate, split x, split n, split off) (simp (sub-+, sub-*, sub-neg-is) (omega (arith, same)))
 
     gathered : (a d e : ℕ) → pos a +ℤ (pos d -ℤ pos e) ≡ subℕ (a + d) e
     gathered a d e = rw (minus-is d e, of-pos a, sub-+ a 0 d e) (same (a + d) (0 + e) (a + d) e (omega arith))
