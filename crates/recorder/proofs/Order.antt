@@ -103,10 +103,9 @@ reading-on a b x n w =
 
 -- ---- the distances of two latches differ by the way from one to the other
 
--- a distance is the way on, less a turn round the circle or none
+-- a distance is the way on, less some turns round the circle: one, or none
 record Way (latch newer : LocalTime) : Type 0 where
   pub turns : ℕ
-  pub once : turns ≤ 1
   pub is : distanceOf latch newer ≡ subℕ (sinceOf latch newer) (turns * circle)
 
 way : (latch newer : LocalTime) → Way latch newer
@@ -114,8 +113,8 @@ unfolding distanceOf
 way latch newer = go (decLe halfWay (sinceOf latch newer))
   where
     go : Dec (halfWay ≤ sinceOf latch newer) → Way latch newer
-    go (yes h) = record { turns = 1; once = omega arith; is = sym (way-back _ h) ∙ minus-is (sinceOf latch newer) circle }
-    go (no h) = record { turns = 0; once = omega arith; is = sym (way-on _ (lt-of-not-le h)) ∙ of-pos (sinceOf latch newer) }
+    go (yes h) = record { turns = 1; is = sym (way-back _ h) ∙ minus-is (sinceOf latch newer) circle }
+    go (no h) = record { turns = 0; is = sym (way-on _ (lt-of-not-le h)) ∙ of-pos (sinceOf latch newer) }
 
 -- within reach, the way on is within reach of its turns
 within : {latch newer : LocalTime} (w : Way latch newer) → natAbs (distanceOf latch newer) ≤ longestReach
