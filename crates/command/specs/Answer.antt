@@ -109,9 +109,9 @@ betterText a b = bytesLine (pieceOf (winnerOf (standingOf a) (standingOf b)) a b
 abbrev pub stampWidths : List ℕ
 stampWidths = 1 ∷ 0 ∷ 5 ∷ 5 ∷ 0 ∷ []
 
-abbrev pub stampedText : Stamped → List ℕ
-stampedText (At g) = columnsText stampWidths (stampNo (At g) ∷ space ∷ g .0 ∷ g .1 ∷ newline ∷ [])
-stampedText (unstamped k) = line1 (stampNo (unstamped k))
+abbrev pub stampText : Stamped → List ℕ
+stampText (At g) = columnsText stampWidths (stampNo (At g) ∷ space ∷ g .0 ∷ g .1 ∷ newline ∷ [])
+stampText (unstamped k) = line1 (stampNo (unstamped k))
 
 -- ---- the letter's call
 
@@ -123,7 +123,7 @@ askedText letter b f =
     (cond (eqb letter letterF) (readText (readOf (take (sizeIn f 0) (f .bytes))))
     (cond (eqb letter letterW) (writeText (fieldsIn f) (untouched (sizeIn f 10)))
     (cond (eqb letter letterB) (betterText (take (sizeIn f 0) (f .bytes)) (take (sizeIn f 1) (drop (sizeIn f 0) (f .bytes))))
-    (cond (eqb letter letterE) (stampedText (stampOf b (numberIn f 0)))
+    (cond (eqb letter letterE) (stampText (stampOf b (numberIn f 0)))
     badText)))))
 
 -- S, L, O, R, A, T, and those

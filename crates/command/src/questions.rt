@@ -15,7 +15,7 @@ ghost use Rattle.fields.specs.Field.{mostLength};
 ghost use Rattle.fields.specs.Form.{bufferBytes};
 ghost use Rattle.columns.specs.Columns.{longestAnswer, lineWith, Prints};
 ghost use Rattle.command.specs.Argument.{numberIn, byteIn, sizeIn, fieldsIn, untouched};
-ghost use Rattle.command.specs.Answer.{chosenText, IsNumber, driftText, fieldValues, readText, writeText, betterText, stampedText};
+ghost use Rattle.command.specs.Answer.{chosenText, IsNumber, driftText, fieldValues, readText, writeText, betterText, stampText};
 use crate::arguments;
 use crate::changes;
 use bridge::Bridge;
@@ -211,7 +211,7 @@ const STAMP_WIDTHS: [usize; 5] = [BYTE, CHARACTER, 5, 5, CHARACTER];
 // Prints a stamp after the answer 0, or the refusal.
 fn stamped(stamp: Stamped, out: &mut [u8]) -> usize
     requires { ⌜ longestAnswer ≤ length (now out) ⌝ }
-    ensures { λ r. ⌜ Prints (stampedText stamp) r (now (out .entry)) (now (out .exit)) ⌝ }
+    ensures { λ r. ⌜ Prints (stampText stamp) r (now (out .entry)) (now (out .exit)) ⌝ }
 {
     match stamp {
         Stamped::At(time) => columns::line(
@@ -227,7 +227,7 @@ fn stamped(stamp: Stamped, out: &mut [u8]) -> usize
 pub fn stamp(b: Bridge, form: Form, out: &mut [u8]) -> usize
     requires { ⌜ Lawful b ⌝ }
     requires { ⌜ longestAnswer ≤ length (now out) ⌝ }
-    ensures { λ r. ⌜ Prints (stampedText (stampOf b (numberIn form 0))) r (now (out .entry)) (now (out .exit)) ⌝ }
+    ensures { λ r. ⌜ Prints (stampText (stampOf b (numberIn form 0))) r (now (out .entry)) (now (out .exit)) ⌝ }
 {
     stamped(recorder::stamp(b, form.numbers[0]), out)
 }

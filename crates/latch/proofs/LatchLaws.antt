@@ -7,12 +7,12 @@ use lib.ListN.{length}
 use Rattle.bridge.specs.declared.Bridge.{Bridge}
 use Rattle.hex.specs.Digit.{worth}
 use Rattle.capture.specs.Capture.{listedOf}
-use Rattle.latch.specs.Latch.{latchDigits, isLatch, stampSays, latchedOf}
+use Rattle.latch.specs.Latch.{latchDigits, isLatch, latchSays, latchedOf}
 use Rattle.numbers.proofs.Branches.{if-true, if-false}
 use Rattle.hex.proofs.DigitLaws.{exactly-long}
 
 module _ (b : Bridge) (s : List ℕ) where
-  pub latch-stamped : isLatch s ≡ true → stampSays b (worth 0 s) ≡ latchedOf b s
+  pub latch-stamped : isLatch s ≡ true → latchSays b (worth 0 s) ≡ latchedOf b s
   unfolding latchedOf
   latch-stamped e = if-true _ _ _ e
 

@@ -28,14 +28,14 @@ abbrev pub fractionBytes : ℕ
 fractionBytes = 5
 
 -- a stamp, 20 digits, or the refusal
-abbrev pub stampText : Stamped → List ℕ
-stampText (At g) = columnsText (secondsBytes ∷ fractionBytes ∷ 0 ∷ []) (g .0 ∷ g .1 ∷ newline ∷ [])
-stampText (Refused k) = line1 (stampNo (Refused k))
+abbrev pub latchText : Stamped → List ℕ
+latchText (At g) = columnsText (secondsBytes ∷ fractionBytes ∷ 0 ∷ []) (g .0 ∷ g .1 ∷ newline ∷ [])
+latchText (Refused k) = line1 (stampNo (Refused k))
 
 -- a latch leaves the state as it is
-abbrev pub stampSays : Bridge → ℕ → Answer
-stampSays b latch = says b (stampText (stampOf b latch))
+abbrev pub latchSays : Bridge → ℕ → Answer
+latchSays b latch = says b (latchText (stampOf b latch))
 
 -- a latch is stamped, and every other text is answered as the listing answers it
 unfoldable pub latchedOf : Bridge → List ℕ → Answer
-latchedOf b s = cond (isLatch s) (stampSays b (worth 0 s)) (listedOf b s)
+latchedOf b s = cond (isLatch s) (latchSays b (worth 0 s)) (listedOf b s)

@@ -4,7 +4,7 @@ ghost use lib.ListN.{length};
 ghost use Rattle.bridge.specs.State.{Lawful};
 ghost use Rattle.columns.specs.Columns.{longestAnswer, Prints};
 ghost use Rattle.answer.specs.Answer.{Says};
-ghost use Rattle.latch.specs.Latch.{stampText, latchedOf};
+ghost use Rattle.latch.specs.Latch.{latchText, latchedOf};
 use answer::Answered;
 use bridge::Bridge;
 use columns::CHARACTER;
@@ -23,7 +23,7 @@ const FRACTION_BYTES: usize = 5;
 // Prints a stamp, or the refusal.
 fn stamped(stamp: Stamped, out: &mut [u8]) -> usize
     requires { ⌜ longestAnswer ≤ length (now out) ⌝ }
-    ensures { λ r. ⌜ Prints (stampText stamp) r (now (out .entry)) (now (out .exit)) ⌝ }
+    ensures { λ r. ⌜ Prints (latchText stamp) r (now (out .entry)) (now (out .exit)) ⌝ }
 {
     match stamp {
         Stamped::At(time) => columns::line(

@@ -1,4 +1,4 @@
--- Laws of the signed distance: the way on or the way back, whichever is shorter, and how the distances of two latches differ.
+-- Laws of the signed distance: it is the way on or the way back round the circle, whichever is shorter.
 use mathlib.Core.Path.{_≡_, sym, ap, _∙_}
 use Prim.Native.Nat.{ℕ, _+_, _-_, _<_, _≤_}
 use native.Mathlib.Nat.{lt-of-not-le}

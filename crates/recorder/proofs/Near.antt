@@ -74,12 +74,12 @@ reading-newer : (a b : Sample) → readingAt a b (pos 0) ≡ pos (units (b .gran
 unfolding readingAt scaledOf
 reading-newer a b = rw (*ℤ-zero (rateBetween a b)) (+ℤ-idr (pos (units (b .grand))))
 
-round : (a : LocalTime) → sinceOf a a ≡ 0
+since-itself : (a : LocalTime) → sinceOf a a ≡ 0
 unfolding sinceOf
-round a = omega arith
+since-itself a = omega arith
 
 no-distance : (a : LocalTime) → distanceOf a a ≡ pos 0
-no-distance a = onward a a (omega (arith, round a)) ∙ ap pos (round a)
+no-distance a = onward a a (omega (arith, since-itself a)) ∙ ap pos (since-itself a)
 
 pub stamp-at-newer : (b : Bridge) (older newer : Sample) → Lawful b → endsOf (chosenSamples b) ≡ Both older newer → newer .local .0 < circle
     → stampOf b (newer .local .0) ≡ At (newer .grand)

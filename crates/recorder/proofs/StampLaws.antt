@@ -1,13 +1,13 @@
 -- Laws of the stamp: the request's formula, each case of the rule, the answers, and what a stamp tells of the samples that it is read off.
 use mathlib.Core.Path.{_≡_, refl, sym, ap, _∙_, subst}
-use mathlib.Core.Logic.{inl, inr}
+use mathlib.Core.Logic.{_⊎_, inl, inr}
 use Prim.Native.Nat.{ℕ, _<_, _≤_}
 use native.Mathlib.Omega.{arith}
-use borrow.Author.Tests.{le-leb, lt-leb, leb-true, lt-ltb, le-ltb}
+use borrow.Author.Tests.{le-leb, lt-leb, leb-true, leb-false, lt-ltb, le-ltb, ltb-true, ltb-false}
 use lib.Dec.{ltb, leb}
 use lib.IntN.{ℤ, pos, natAbs, _+ℤ_, +ℤ-assoc, +ℤ-idr}
-use Rattle.refusals.specs.Refusals.{outOfRange, noClock, fewSamples, beyondRange}
-use Rattle.times.specs.Times.{circle, units, InRange, momentOf}
+use Rattle.refusals.specs.Refusals.{outOfRange}
+use Rattle.times.specs.Times.{circle, units, momentOf}
 use Rattle.times.specs.declared.LocalTime.{LocalTime}
 use Rattle.times.specs.declared.GrandTime.{GrandTime}
 use Rattle.times.specs.declared.Moment.{Moment}
@@ -17,13 +17,14 @@ use Rattle.samples.specs.declared.Sample.{Sample}
 use Rattle.samples.specs.declared.Ends.{Ends}
 use Rattle.samples.specs.declared.Ends.the-variants.{Few, Both}
 use Rattle.line.specs.Line.{longestReach, InReach, readingAt}
+use Rattle.choice.specs.declared.Precedence.{Precedence}
 use Rattle.choice.specs.declared.Candidate.{Candidate}
 use Rattle.choice.specs.declared.Candidate.the-variants.{Nothing, Clock}
 use Rattle.bridge.specs.Chosen.{chosenOf}
 use Rattle.bridge.specs.Send.{chosenSamples}
 use Rattle.bridge.specs.declared.Bridge.{Bridge}
 use Rattle.recorder.specs.Stamp.{latched, distanceOf, tooFar, stampAs, stampThrough, stampBy, stampOf, stampNo, stampTime}
-use Rattle.recorder.specs.Demands.{StampAnswers}
+use Rattle.recorder.specs.Demands.{InReachAnswers, ReachAnswers, ClockAnswers, StampAnswers}
 use Rattle.recorder.specs.Promises.{StampPromise}
 use Rattle.recorder.specs.declared.Stamped.{Stamped}
 use Rattle.recorder.specs.declared.Stamped.the-variants.{At, Refused}
@@ -62,30 +63,40 @@ module _ (b : Bridge) (latch : ℕ) where
   unfolding stampOf
   stamp-by h q = ap (λ (x : Candidate). stampBy x (chosenSamples b) (latched latch)) q ∙ if-true _ _ _ (lt-ltb _ _ h)
 
-  -- what holds in each case holds of the stamp
-  pub stamp-is : (P : Stamped → Type 0) → P (Refused outOfRange) → P (Refused noClock) → P (Refused fewSamples) → P (Refused tooFar) → P (Refused beyondRange)
-      → ((older newer : Sample) (g : GrandTime) → endsOf (chosenSamples b) ≡ Both older newer
-      → natAbs (distanceOf (latched latch) (newer .local)) ≤ longestReach → InRange g
-      → pos (units g) ≡ readingAt older newer (distanceOf (latched latch) (newer .local)) → P (At g))
-      → P (stampOf b latch)
+  -- each answer, with what holds where it is given
+  pub stamp-answers : StampAnswers b latch (stampOf b latch)
   unfolding stampOf
-  stamp-is P off none few far beyond at = if-when P (ltb latch circle) (λ _. by (chosenOf b)) (λ _. off)
-    where
-      through : (e : Ends) → endsOf (chosenSamples b) ≡ e → P (stampThrough e (latched latch))
-      through Few q = few
-      through (Both older newer) q =
-          if-when P (leb (natAbs (distanceOf (latched latch) (newer .local))) longestReach)
-          (λ e. moment-is (λ (m : Moment). P (stampAs m)) (readingAt older newer (distanceOf (latched latch) (newer .local))) (λ g. at older newer g q (leb-true _ _ e)) (λ _. beyond))
-          (λ _. far)
-
-      by : (c : Candidate) → P (stampBy c (chosenSamples b) (latched latch))
-      by Nothing = none
-      by (Clock precedence hop number) = through (endsOf (chosenSamples b)) refl
-
-  pub stamp-answers : StampAnswers (stampOf b latch)
   stamp-answers =
-      stamp-is StampAnswers (inr (inl refl)) (inr (inr (omega arith, omega arith))) (inr (inr (omega arith, omega arith))) (inr (inr (omega arith, omega arith)))
-      (inr (inr (omega arith, omega arith))) (λ _ _ _ _ _ _ _. inl refl)
+      if-when (StampAnswers b latch) (ltb latch circle) (λ e. inr (ltb-true _ _ e, by (chosenOf b) refl)) (λ e. inl (refl, ltb-false _ _ e))
+    where
+      at : Sample → ℤ
+      at newer = distanceOf (latched latch) (newer .local)
+
+      through : (e : Ends) → endsOf (chosenSamples b) ≡ e → ClockAnswers (chosenSamples b) latch (stampThrough e (latched latch))
+      through Few q = inl (refl, q)
+      through (Both older newer) q =
+          inr (
+            older,
+            newer,
+            q,
+            if-when (ReachAnswers older newer (at newer)) (leb (natAbs (at newer)) longestReach)
+                (λ e.
+                inr (
+                  leb-true _ _ e,
+                  moment-is (λ (m : Moment). InReachAnswers older newer (at newer) (stampAs m)) (readingAt older newer (at newer))
+                      (λ g _ z. inr (refl, (g, refl, z))) (λ end. inl (refl, end)),
+                ))
+                (λ e. inl (refl, leb-false _ _ e)),
+          )
+
+      by : (c : Candidate) → chosenOf b ≡ c
+          → ((stampNo (stampBy c (chosenSamples b) (latched latch)) ≡ 10) × (chosenOf b ≡ Nothing))
+          ⊎ ((chosenOf b ≡ Nothing → ⊥) × ClockAnswers (chosenSamples b) latch (stampBy c (chosenSamples b) (latched latch)))
+      by Nothing q = inl (refl, q)
+      by (Clock precedence hop number) q = inr (some-clock precedence hop number q, through (endsOf (chosenSamples b)) refl)
+        where
+          some-clock : (p : Precedence) (h n : ℕ) → chosenOf b ≡ Clock p h n → chosenOf b ≡ Nothing → ⊥
+          some-clock p h n q e = let z : _≡_ {A = ℕ} 0 1 = cc in omega arith
 
 -- ---- the promise, from its equation; and two outcomes that it allows are equal
 
@@ -105,14 +116,17 @@ pub record ReadOff (b : Bridge) (latch : ℕ) (g : GrandTime) : Type 0 where
   pub time : pos (units g) ≡ readingAt older newer (distanceOf (latched latch) (newer .local))
 
 pub read-off : (b : Bridge) (latch : ℕ) (g : GrandTime) → stampOf b latch ≡ At g → ReadOff b latch g
-read-off b latch g =
-    stamp-is b latch (λ (s : Stamped). s ≡ At g → ReadOff b latch g) (refused _) (refused _) (refused _) (refused _) (refused _)
-    (λ older newer h k l r z q.
-    let p : h ≡ g = cc in
-    record { older = older; newer = newer; kept = k; reach = l; time = ap (λ (x : GrandTime). pos (units x)) (sym p) ∙ z })
+read-off b latch g e = go (subst (StampAnswers b latch) e (stamp-answers b latch))
   where
-    refused : (k : ℕ) → Refused k ≡ At g → ReadOff b latch g
-    refused k q = let z : _≡_ {A = ℕ} 0 1 = cc in absurd (omega arith)
+    go : StampAnswers b latch (At g) → ReadOff b latch g
+    go (inl a) = absurd (omega (arith, a .0))
+    go (inr (h, inl a)) = absurd (omega (arith, a .0))
+    go (inr (h, inr (c, inl a))) = absurd (omega (arith, a .0))
+    go (inr (h, inr (c, inr (older, newer, k, inl a)))) = absurd (omega (arith, a .0))
+    go (inr (h, inr (c, inr (older, newer, k, inr (l, inl a))))) = absurd (omega (arith, a .0))
+    go (inr (h, inr (c, inr (older, newer, k, inr (l, inr (done, (f, q, z))))))) =
+        let p : f ≡ g = cc in
+        record { older = older; newer = newer; kept = k; reach = l; time = ap (λ (x : GrandTime). pos (units x)) (sym p) ∙ z }
 
 -- the same, of two ends that are known
 pub read-at : (b : Bridge) (latch : ℕ) (g : GrandTime) (older newer : Sample) → endsOf (chosenSamples b) ≡ Both older newer → stampOf b latch ≡ At g

@@ -14,10 +14,11 @@ pub record Edge : Type 0 where
   pub got : Stamped
   pub says : Stamped
 
--- two samples that lie 2^34 apart, the newer one at the local time 2^34: grand time from `start` on, which gained so much between them
+-- a sample of so many units of grand time and of local time
 abbrev sample : ℕ → ℕ → Sample
 sample grand local = record { grand = grandOf grand; local = latched local; error = record { 0 = 0 } }
 
+-- two samples that lie 2^34 apart, the older one at the local time 0: grand time from `start` on, and what it gained between them
 abbrev spread : ℕ
 spread = 2 ^ 34
 
@@ -28,10 +29,11 @@ samples start gained = Both (sample start 0) (sample (start + spread + gained) s
 abbrev steady : Ends
 steady = samples (100 * second) 2
 
+-- the grand time of its newer sample
 abbrev newer : ℕ
 newer = 100 * second + spread + 2
 
--- the first grand times, and the last ones
+-- samples at the first grand times, and at the last ones
 abbrev first : Ends
 first = samples 0 2
 

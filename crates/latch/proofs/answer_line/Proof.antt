@@ -4,7 +4,7 @@ use native.Mathlib.Omega.{arith}
 use borrow.Author.Needs.{needs}
 use borrow.Author.Tests.{not-true, not-false}
 use Rattle.recorder.specs.Stamp.{stampOf}
-use Rattle.latch.specs.Latch.{latchDigits, stampText}
+use Rattle.latch.specs.Latch.{latchDigits, latchText}
 use Rattle.hex.proofs.DigitLaws.{exactly-length}
 use Rattle.answer.proofs.AnswerLaws.{as-says, as-prints}
 use Rattle.latch.proofs.LatchLaws.{latch-stamped, latch-listed}
@@ -29,7 +29,7 @@ returns-2 c =
     let s = i .before .before .before .before in
     let stamp = t .stamp .ensures .answer ∙ ap (stampOf (s .args .b)) (n .number .ensures) in
     as-says (latch-stamped _ _ (sym (i .before .exactly .ensures) ∙ not-false _ (i .if1 .left)))
-    (record { state = refl; prints = as-prints (ap stampText stamp) (p .stamped .ensures); lawful = s .pre .0 })
+    (record { state = refl; prints = as-prints (ap latchText stamp) (p .stamped .ensures); lawful = s .pre .0 })
 
 pub answer-line-spec : {M : Type 1} → statement M
 answer-line-spec =

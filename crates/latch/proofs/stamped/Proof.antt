@@ -1,7 +1,7 @@
 -- By whether there is a stamp.
 use mathlib.Core.Path.{sym, ap}
 use Rattle.answer.proofs.AnswerLaws.{as-prints}
-use Rattle.latch.specs.Latch.{stampText}
+use Rattle.latch.specs.Latch.{latchText}
 use borrow.Author.Needs.{needs}
 use Rattle.latch.proofs.stamped.Statement.{statement}
 use Rattle.latch.proofs.stamped.Tie as tie
@@ -9,12 +9,12 @@ use Rattle.latch.proofs.stamped.Tie as tie
 returns : tie.Need-returns
 returns c =
     let l = c .before .before in
-    as-prints (ap stampText (sym (l .before .before .before .before .before .stamp .given .1))) (l .line .ensures)
+    as-prints (ap latchText (sym (l .before .before .before .before .before .stamp .given .1))) (l .line .ensures)
 
 returns-2 : tie.Need-returns-2
 returns-2 c =
     let o = c .before .before in
-    as-prints (ap stampText (sym (o .before .before .before .stamp2 .given .1))) (o .one .ensures)
+    as-prints (ap latchText (sym (o .before .before .before .stamp2 .given .1))) (o .one .ensures)
 
 pub stamped-spec : {M : Type 1} → statement M
 stamped-spec =

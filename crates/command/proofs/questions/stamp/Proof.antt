@@ -1,7 +1,7 @@
 -- What Stamp answers, of the line's number.
 use mathlib.Core.Path.{ap}
 use Rattle.answer.proofs.AnswerLaws.{as-prints}
-use Rattle.command.specs.Answer.{stampedText}
+use Rattle.command.specs.Answer.{stampText}
 use borrow.Author.Needs.{needs}
 use Rattle.command.proofs.questions.stamp.Statement.{statement}
 use Rattle.command.proofs.questions.stamp.Tie as tie
@@ -14,4 +14,4 @@ stamp-spec =
     (λ c κs. search needs)
     (λ c κs. search needs)
     (λ c. search needs)
-    (λ c. as-prints (ap stampedText (c .before .before .before .before .stamp .ensures .answer)) (c .before .before .stamped .ensures)))
+    (λ c. as-prints (ap stampText (c .before .before .before .before .stamp .ensures .answer)) (c .before .before .stamped .ensures)))

@@ -1,7 +1,7 @@
 -- By whether there is a stamp.
 use mathlib.Core.Path.{sym, ap}
 use Rattle.answer.proofs.AnswerLaws.{as-prints}
-use Rattle.command.specs.Answer.{stampedText}
+use Rattle.command.specs.Answer.{stampText}
 use borrow.Author.Needs.{needs}
 use Rattle.command.proofs.questions.stamped.Statement.{statement}
 use Rattle.command.proofs.questions.stamped.Tie as tie
@@ -18,6 +18,6 @@ stamped-spec =
     (λ c. search needs)
     (λ c κs. search needs)
     (λ c. search needs)
-    (λ c. as-prints (ap stampedText (sym (c .before .before .before .before .before .before .before .stamp .given .1))) (c .before .before .line .ensures))
+    (λ c. as-prints (ap stampText (sym (c .before .before .before .before .before .before .before .stamp .given .1))) (c .before .before .line .ensures))
     (λ c. search needs)
-    (λ c. as-prints (ap stampedText (sym (c .before .before .before .before .before .stamp2 .given .1))) (c .before .before .one .ensures)))
+    (λ c. as-prints (ap stampText (sym (c .before .before .before .before .before .stamp2 .given .1))) (c .before .before .one .ensures)))
