@@ -1,5 +1,5 @@
 -- The round trips: an accepted frame, read and written, has its bytes; fields that are written and read are those fields.
--- And where precedence, grand time and frameCount stand in a frame, as the numbers that their bytes make.
+-- And where precedence, hopCount, grand time and frameCount stand in a frame, as the numbers that their bytes make.
 use mathlib.Core.Path.{_≡_, refl, sym, ap, _∙_, subst}
 use mathlib.Core.List.{List, [], _∷_, _++_, append-assoc}
 use Prim.Native.Nat.{ℕ, _+_, _*_, _^_, _<_, _≤_}
@@ -108,7 +108,14 @@ precedence-number s f e =
     ap (λ (g : Fields). precedenceOf (g .precedence)) (sym (q .1))
     ∙ omega (arith, number-add s 16 1 12 (omega arith), number-add s 17 1 11 (omega arith), number-add s 18 2 9 (omega arith), number-add s 20 1 8 (omega arith))
 
--- ---- where a written frame has its grand time and its frameCount
+-- ---- hopCount
+
+-- the hop that is read is byte 29
+pub hop-number : (s : List ℕ) (f : Fields) → readOf s ≡ Frame f → f .hop ≡ numberAt s 29 1
+unfolding parted
+hop-number s f e = ap (λ (g : Fields). g .hop) (sym (reading s f e .1))
+
+-- ---- where a written frame has its grand time, its hopCount and its frameCount
 
 -- the rows from k on, in the bytes of a frame
 rows-from : (f : Fields) (t : List ℕ) (k : ℕ) → k ≤ 24 → drop (total (take k widths)) (bytesOf f t) ≡ joined (drop k widths) (drop k (valuesOf f)) t
@@ -131,10 +138,16 @@ grand-bytes f t r =
     ∙ onto-split x (f .grand .0)
     ∙ (λ i. f .grand .0 * 256 ^ length-digits 5 (f .grand .1) i + value-digits 5 (f .grand .1) (r .fraction) i)
 
+-- a row of a single byte makes its value
+byte-value : (v : ℕ) (rest : List ℕ) → v < 256 → onto 0 (take 1 (digits 1 v ++ rest)) ≡ v
+byte-value v rest h = ap (onto 0) (take-at (digits 1 v) rest 1 (length-digits 1 v)) ∙ value-digits 1 v h
+
+-- byte 29 is the hopCount
+pub hop-byte : (f : Fields) (t : List ℕ) → f .hop < 256 → numberAt (bytesOf f t) 29 1 ≡ f .hop
+unfolding joined
+hop-byte f t h = ap (λ (l : List ℕ). onto 0 (take 1 l)) (rows-from f t 15 (lit≤ tt)) ∙ byte-value (f .hop) (joined (drop 16 widths) (drop 16 (valuesOf f)) t) h
+
 -- byte 30 is the frameCount
 pub count-byte : (f : Fields) (t : List ℕ) → f .count < 256 → numberAt (bytesOf f t) 30 1 ≡ f .count
 unfolding joined
-count-byte f t h =
-    ap (λ (l : List ℕ). onto 0 (take 1 l)) (rows-from f t 16 (lit≤ tt))
-    ∙ ap (onto 0) (take-at (digits 1 (f .count)) (joined (drop 17 widths) (drop 17 (valuesOf f)) t) 1 (length-digits 1 (f .count)))
-    ∙ value-digits 1 (f .count) h
+count-byte f t h = ap (λ (l : List ℕ). onto 0 (take 1 l)) (rows-from f t 16 (lit≤ tt)) ∙ byte-value (f .count) (joined (drop 17 widths) (drop 17 (valuesOf f)) t) h

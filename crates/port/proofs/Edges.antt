@@ -2,7 +2,7 @@
 use mathlib.Core.Path.{_≡_, refl}
 use mathlib.Core.List.{map}
 use Rattle.times.specs.Times.{sinceOf, momentOf}
-use Rattle.choice.specs.Hop.{hopStep, hopOf}
+use Rattle.choice.specs.Hop.{jumpOf, hopStep, hopOf}
 use Rattle.choice.specs.Choose.{chosenHop}
 use Rattle.samples.specs.Rate.{gainOf, rateOf, scaledOf}
 use Rattle.samples.specs.Keep.{keptOf, endsOf}
@@ -12,5 +12,5 @@ use Rattle.line.specs.Sent.{sentTime, sentOf}
 use Rattle.port.specs.Edges.{Row, table}
 
 pub claim : map (λ (r : Row). r .got) table ≡ map (λ (r : Row). r .says) table
-unfolding table chosenHop sinceOf momentOf gainOf rateOf scaledOf delayOf hopStep hopOf keptOf endsOf readingAt sentTime sentOf
+unfolding table chosenHop sinceOf momentOf gainOf rateOf scaledOf delayOf jumpOf hopStep hopOf keptOf endsOf readingAt sentTime sentOf
 claim = refl

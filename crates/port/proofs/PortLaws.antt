@@ -72,6 +72,15 @@ module _ (at : LocalTime) (timeout : ℕ) (port : Port) where
   pub aged-old : {p : Precedence} {h : ℕ} {when : LocalTime} → port .announcement ≡ Announced p h when → timeout ≤ sinceOf at when → silenced port ≡ agedPort at timeout port
   aged-old e l = if-false _ port (silenced port) (le-ltb _ _ l) ∙ by-announcement e
 
+  -- what holds of the record, and of it without announcement, samples and echo, holds of the aged one
+  pub aged-is : (P : Port → Type 0) → P port → P (silenced port) → P (agedPort at timeout port)
+  unfolding agedPort
+  aged-is P stays goes = go (port .announcement)
+    where
+      go : (h : Announcement) → P (agedBy h at timeout port)
+      go Silent = stays
+      go (Announced p h when) = if-when P (ltb (sinceOf at when) timeout) (λ _. stays) (λ _. goes)
+
 -- ---- receiving
 
 module _ (setting : DelaySetting) (chosen : ℕ) (f : Fields) (at : LocalTime) (port : Port) where
@@ -146,12 +155,7 @@ pub received-count : (setting : DelaySetting) (chosen : ℕ) (f : Fields) (at : 
 received-count setting chosen f at port = received-is setting chosen f at port (λ (r : PortDone). r .port .count ≡ port .count) (λ _ _ _. refl) (λ _ _ _ _. refl)
 
 pub aged-count : (at : LocalTime) (timeout : ℕ) (port : Port) → agedPort at timeout port .count ≡ port .count
-unfolding agedPort
-aged-count at timeout port = go (port .announcement)
-  where
-    go : (h : Announcement) → agedBy h at timeout port .count ≡ port .count
-    go Silent = refl
-    go (Announced p h when) = if-when (λ (r : Port). r .count ≡ port .count) (ltb (sinceOf at when) timeout) (λ _. refl) (λ _. refl)
+aged-count at timeout port = aged-is at timeout port (λ (r : Port). r .count ≡ port .count) refl refl
 
 -- what holds of a refusal with 8, and of a reading that is taken, holds of the reading
 pub own-reading-is : (count : ℕ) (grand : GrandTime) (at : LocalTime) (clock : OwnClock) (P : ClockDone → Type 0) → P (storedAs 8 (clock .samples) count at)
@@ -244,12 +248,7 @@ pub used-lawful : (port : Port) → LawfulPort port → LawfulPort (usedPort por
 used-lawful port l = record { preceding = l .preceding; samples = l .samples; echo = l .echo }
 
 pub aged-lawful : (at : LocalTime) (timeout : ℕ) (port : Port) → LawfulPort port → LawfulPort (agedPort at timeout port)
-unfolding agedPort
-aged-lawful at timeout port l = go (port .announcement)
-  where
-    go : (h : Announcement) → LawfulPort (agedBy h at timeout port)
-    go Silent = l
-    go (Announced p h when) = if-when LawfulPort (ltb (sinceOf at when) timeout) (λ _. l) (λ _. record { preceding = l .preceding; samples = tt; echo = tt })
+aged-lawful at timeout port l = aged-is at timeout port LawfulPort l (record { preceding = l .preceding; samples = tt; echo = tt })
 
 pub received-lawful : (setting : DelaySetting) (chosen : ℕ) (f : Fields) (at : LocalTime) (port : Port)
     → at .0 < circle → FieldsInRange f → LawfulPort port → LawfulPort (receivedOf setting chosen f at port .port)

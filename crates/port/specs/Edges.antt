@@ -87,7 +87,7 @@ table =
     ∷ row (pos (hopOf 3 2)) (pos 129)
     ∷ row (pos (hopOf 3 (chosenHop Nothing))) (pos 4)
     ∷ row (pos (hopOf 253 10)) (pos 254)
-    ∷ row (pos (hopOf 254 10)) (pos 254)
+    ∷ row (pos (hopOf 254 10)) (pos 255)
     -- backTime 2^33, t = r1 + 2^34
     ∷ row (sent (sentOf line (local (2 ^ 34 + 2 ^ 34)) (2 ^ 33))) (pos (100 * second + 34359738371))
     ∷ []
