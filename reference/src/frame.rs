@@ -27,7 +27,8 @@ const AT_PROTOCOL: Range<usize> = 12..14;
 const AT_FUNCTION: usize = 14;
 const AT_VERSION: usize = 15;
 const AT_PRECEDENCE: Range<usize> = 16..29;
-const AT_HOP: usize = 29;
+/// Where the hop stands.
+pub const AT_HOP: usize = 29;
 const AT_COUNT: usize = 30;
 const AT_ZERO: usize = 31;
 const AT_GRAND: Range<usize> = 32..42;

@@ -72,8 +72,12 @@ pub fn measured_delay(rate: i128, round_trip: u64, turn: u64) -> Option<u64> {
 
 /// Gives the hop to hold for a frame's hop below 255 against the chosen clock's hop.
 pub fn held_hop(chosen_hop: u8, hop: u8) -> u8 {
-    let left = HOP_NONE - hop;
-    hop + if hop > chosen_hop { left / 2 } else { 1 }
+    let next = hop + 1;
+    if hop > chosen_hop {
+        next.max(hop + (HOP_NONE - hop) / 2)
+    } else {
+        next
+    }
 }
 
 /// Gives the rate between two samples of grand time and local time.

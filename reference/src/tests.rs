@@ -66,7 +66,23 @@ fn hops_grow() {
     assert_eq!(held_hop(2, 3), 129);
     assert_eq!(held_hop(HOP_NONE, 3), 4);
     assert_eq!(held_hop(10, 253), 254);
-    assert_eq!(held_hop(10, 254), 254);
+    assert_eq!(held_hop(10, 254), 255);
+}
+
+/// Every held hop is above the frame's and at most the last, by the greatest step that half of the way left allows.
+#[test]
+fn hops_rise_at_every_station() {
+    for chosen in 0..=HOP_NONE {
+        for hop in 0..HOP_NONE {
+            let held = held_hop(chosen, hop);
+            assert!(held > hop);
+            let step = u16::from(held - hop);
+            let left = u16::from(HOP_NONE - hop);
+            let farthest = if hop > chosen { left } else { 0 };
+            assert!(step == 1 || 2 * step <= farthest);
+            assert!(2 * (step + 1) > farthest);
+        }
+    }
 }
 
 /// A worked example of a sent time comes out.

@@ -1,14 +1,22 @@
--- The choice is one of the candidates, no candidate has a lesser rank, and it is none exactly if there are none.
+-- The choice is one of the candidates, no candidate has a lesser rank, it is none exactly if there are none, and the port that it names announces it.
 use mathlib.Core.Path.{_≡_, refl, sym, _∙_, subst}
+use mathlib.Core.Bool.{Bool, true, false}
 use mathlib.Core.List.{List, [], _∷_, List·Memᴰ, List·Memᴰ·head, List·Memᴰ·tail, List·Memᴰ·cases-cons, List·Memᴰ·not-nil}
 use mathlib.Core.Logic.{_⊎_, inl, inr, ⊎-elim}
+use Prim.Native.Nat.{ℕ, suc, _+_}
 use native.Mathlib.Nat.{le-trans, le-refl, le-of-lt}
+use native.Mathlib.Omega.{arith}
 use borrow.Author.Tests.{ltb-true, ltb-false}
 use lib.Dec.{ltb}
-use Rattle.choice.specs.Choose.{rankOf, ownCandidate, betterOf}
+use Rattle.times.specs.declared.LocalTime.{LocalTime}
+use Rattle.choice.specs.Choose.{rankOf, candidateOf, ownCandidate, betterOf}
+use Rattle.choice.specs.declared.Precedence.{Precedence}
+use Rattle.choice.specs.declared.Announcement.{Announcement}
+use Rattle.choice.specs.declared.Announcement.the-variants.{Silent, Announced}
 use Rattle.choice.specs.declared.Candidate.{Candidate}
 use Rattle.choice.specs.declared.Candidate.the-variants.{Nothing, Clock}
-use Rattle.table.specs.Table.{candidatesFrom, bestOf}
+use Rattle.port.specs.declared.Port.{Port}
+use Rattle.table.specs.Table.{portAt, candidatesFrom, bestOf}
 use Rattle.bridge.specs.Chosen.{chosenOf}
 use Rattle.bridge.specs.Demands.{candidates, NoWorse}
 use Rattle.bridge.specs.declared.Bridge.{Bridge}
@@ -98,3 +106,37 @@ chosen-none b e x m = go x (subst (λ (y : Candidate). NoWorse y x) e (chosen-le
 
 pub none-chosen : (b : Bridge) → ((x : Candidate) → List·Memᴰ x (candidates b) → x ≡ Nothing) → chosenOf b ≡ Nothing
 none-chosen b f = f (chosenOf b) (chosen-member b)
+
+-- ---- the announcement behind it
+
+-- the clock with this precedence and hop is announced at index i
+abbrev AnnouncedAt : List Port → ℕ → Precedence → ℕ → Type 0
+AnnouncedAt ports i p h = (when : LocalTime) × (portAt ports i .announcement ≡ Announced p h when)
+
+-- a port's candidate is its announcement, under its number
+candidate-announced : (k : ℕ) (x : Announcement) {p : Precedence} {h n : ℕ} → Clock p h n ≡ candidateOf k x → (n ≡ k) × ((when : LocalTime) × (x ≡ Announced p h when))
+unfolding candidateOf
+candidate-announced k Silent e = let clash : _≡_ {A = ℕ} 0 1 = cc in absurd (omega arith)
+candidate-announced k (Announced q g when) {p} {h} {n} e = (cc, (when, cc))
+
+-- a clock among the candidates of the ports is announced at the port of its number
+announced-at : (k : ℕ) (ports : List Port) {p : Precedence} {h n : ℕ} → List·Memᴰ (Clock p h n) (candidatesFrom k ports) → (i : ℕ) × (n ≡ k + i) × AnnouncedAt ports i p h
+unfolding candidatesFrom
+announced-at k [] m = absurd (List·Memᴰ·not-nil m)
+announced-at k (a ∷ l) m =
+    ⊎-elim
+    (λ e. let c = candidate-announced k (a .announcement) e in (0, omega (arith, c .0), c .1))
+    (λ r. let c = announced-at (suc k) l r in (suc (c .0), omega (arith, c .1), c .2))
+    (List·Memᴰ·cases-cons m)
+
+-- a chosen clock that is not the own one is announced at its port
+pub chosen-announced : (b : Bridge) {p : Precedence} {h i : ℕ} → chosenOf b ≡ Clock p h (suc i) → AnnouncedAt (b .ports) i p h
+unfolding ownCandidate
+chosen-announced b {p} {h} {i} e =
+    ⊎-elim (λ own. absurd (not-own (b .setup .capable) own))
+    (λ m. let c = announced-at 1 (b .ports) m in let same : c .0 ≡ i = omega (arith, c .1) in subst (λ (j : ℕ). AnnouncedAt (b .ports) j p h) same (c .2))
+    (List·Memᴰ·cases-cons (subst (λ (c : Candidate). List·Memᴰ c (candidates b)) e (chosen-member b)))
+  where
+    not-own : (t : Bool) → Clock p h (suc i) ≡ ownCandidate t (b .setup .own) → ⊥
+    not-own true own = let number : suc i ≡ 0 = cc in absurd (omega (arith, number))
+    not-own false own = let clash : _≡_ {A = ℕ} 0 1 = cc in absurd (omega arith)

@@ -4,6 +4,8 @@ pub mod PromiseLaws
 pub mod Refused
 pub mod Line
 pub mod Least
+pub mod Records
 pub mod Counts
+pub mod Hops
 pub mod Unique
 pub mod Exact

@@ -1,20 +1,28 @@
 -- Demand 3 on the frame: where Send answers 0, the ten bytes of grandTime that it wrote lie less than 17 U from the exact line
 -- through the oldest and the newest kept sample of the chosen clock, read at t less backTime, plus backTime, across the wrap.
-use mathlib.Core.Path.{_≡_, sym, ap, _∙_, subst}
+use mathlib.Core.Path.{_≡_, refl, sym, ap, _∙_, subst}
 use mathlib.Core.List.{List}
 use Prim.Native.Nat.{ℕ, _-_, _<_, _≤_}
+use native.Mathlib.Omega.{arith}
 use borrow.Author.Tests.{eqb-true, eqb-false}
 use lib.Dec.{eqb}
 use lib.IntN.{pos}
 use lib.ListN.{length, drop}
 use Rattle.numbers.specs.Digits.{numberAt}
 use Rattle.times.specs.Times.{sinceOf, units}
-use Rattle.line.specs.Sent.{reachOf}
+use Rattle.times.specs.declared.LocalTime.{LocalTime}
+use Rattle.line.specs.Sent.{reachOf, sentOf}
+use Rattle.line.specs.declared.Sent.{Sent}
+use Rattle.line.specs.declared.Sent.the-variants.{At, Few, Late, Beyond}
 use Rattle.line.specs.Line.{NearLine}
+use Rattle.choice.specs.declared.Precedence.{Precedence}
+use Rattle.choice.specs.declared.Candidate.the-variants.{Clock}
 use Rattle.frame.specs.Frame.{frameLength}
 use Rattle.frame.specs.Write.{writeRefusal, bytesOf}
 use Rattle.frame.specs.declared.Fields.{Fields}
-use Rattle.port.specs.Send.{sendingBytes}
+use Rattle.frame.specs.declared.Mac.{Mac}
+use Rattle.port.specs.Send.{frameOf, sendingBy, sendingBytes}
+use Rattle.port.specs.declared.Port.{Port}
 use Rattle.port.specs.declared.Sending.{Sending}
 use Rattle.port.specs.declared.Sending.the-variants.{Frame}
 use Rattle.table.specs.Table.{portAt}
@@ -26,8 +34,8 @@ use Rattle.bridge.specs.Demands.{grandStart, grandBytes, OnLine}
 use Rattle.bridge.specs.declared.Bridge.{Bridge}
 use Rattle.bridge.specs.declared.Done.{Done}
 use Rattle.line.proofs.SentLaws.{sent-near}
-use Rattle.frame.proofs.Trip.{grand-bytes, count-byte}
-use Rattle.port.proofs.PortLaws.{ReadOff, sending-read-off, sending-written}
+use Rattle.frame.proofs.Trip.{grand-bytes, hop-byte, count-byte}
+use Rattle.port.proofs.PortLaws.{ReadOff, send-by, sending-read-off, sending-written}
 use Rattle.table.proofs.CheckLaws.{Ready, send-ready}
 use Rattle.table.proofs.TableLaws.{chosen-lawful}
 use Rattle.bridge.proofs.StateLaws.{if-both}
@@ -89,3 +97,19 @@ pub sent-frame-count : (b : Bridge) (port t : ℕ) (out : List ℕ) → portAt (
 sent-frame-count b port t out h e =
     let w = wrote b port t out e in
     ap (λ (l : List ℕ). numberAt l 30 1) (w .bytes) ∙ count-byte (w .fields) (drop frameLength out) (subst (λ (n : ℕ). n < 256) (sym (w .count)) h) ∙ w .count
+
+-- byte 29 of a frame that was sent is the chosen clock's held hop
+sending-hop : (s : Sent) (mac : Mac) (p : Precedence) (h : ℕ) (t : LocalTime) (port : Port) (f : Fields) → sendingBy s mac p h t port ≡ Frame f → f .hop ≡ h
+sending-hop (At g x) mac p h t port f e = let same : frameOf mac p h t g x port ≡ f = cc in sym (ap (λ (f : Fields). f .hop) same)
+sending-hop Few mac p h t port f e = let clash : _≡_ {A = ℕ} 0 1 = cc in absurd (omega arith)
+sending-hop Late mac p h t port f e = let clash : _≡_ {A = ℕ} 0 1 = cc in absurd (omega arith)
+sending-hop Beyond mac p h t port f e = let clash : _≡_ {A = ℕ} 0 1 = cc in absurd (omega arith)
+
+pub sent-frame-hop : (b : Bridge) (port t : ℕ) (out : List ℕ) {p : Precedence} {h n : ℕ} → chosenOf b ≡ Clock p h n → h < 256 → sendOf b port t (length out) .answer ≡ 0
+    → numberAt (sendBytes b port t out) 29 1 ≡ h
+unfolding sendingAt
+sent-frame-hop b port t out {p} {h} {n} c l e =
+    let w = wrote b port t out e in
+    let held : w .fields .hop ≡ h = sending-hop (sentOf (chosenSamples b) (record { 0 = t }) (b .setup .back)) (b .setup .mac) p h (record { 0 = t }) (portAt (b .ports) (port - 1)) (w .fields)
+    (send-by (chosenOf b) (chosenSamples b) (b .setup .mac) (b .setup .back) (record { 0 = t }) (portAt (b .ports) (port - 1)) c refl ∙ w .sending) in
+    ap (λ (l : List ℕ). numberAt l 29 1) (w .bytes) ∙ hop-byte (w .fields) (drop frameLength out) (subst (λ (n : ℕ). n < 256) (sym held) l) ∙ held

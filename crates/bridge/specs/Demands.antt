@@ -1,9 +1,9 @@
--- What the theorems on the calls say: which answers there are and what each leaves, the line of demand 3, the drift, the candidates, and calls in a row.
+-- What the theorems on the calls say: which answers there are and what each leaves, the line of demand 3, the drift, the candidates, calls in a row, and hops.
 use mathlib.Core.Path.{_≡_}
 use mathlib.Core.Bool.{cond, not, _&&_}
 use mathlib.Core.List.{List, [], _∷_}
 use mathlib.Core.Logic.{_⊎_}
-use Prim.Native.Nat.{ℕ, _+_, _-_, _*_, _≤_}
+use Prim.Native.Nat.{ℕ, _+_, _-_, _*_, _<_, _≤_}
 use lib.Dec.{eqb}
 use lib.IntN.{pos, natAbs}
 use lib.Signed.{nonNeg}
@@ -11,6 +11,7 @@ use lib.Ieee.{Float}
 use lib.Ieee.Exact.{HasValue}
 use Rattle.numbers.specs.Digits.{numberAt}
 use Rattle.times.specs.Times.{sinceOf}
+use Rattle.times.specs.declared.LocalTime.{LocalTime}
 use Rattle.samples.specs.Rate.{parts}
 use Rattle.samples.specs.Keep.{endsOf, rateBetween}
 use Rattle.samples.specs.declared.Sample.{Sample}
@@ -19,7 +20,10 @@ use Rattle.line.specs.Sent.{reachOf}
 use Rattle.line.specs.Line.{NearLine}
 use Rattle.line.specs.Drift.{million, driftNo}
 use Rattle.line.specs.declared.Drift.{Drift}
+use Rattle.choice.specs.Hop.{lastHop}
 use Rattle.choice.specs.Choose.{rankOf, ownCandidate}
+use Rattle.choice.specs.declared.Announcement.{Announcement}
+use Rattle.choice.specs.declared.Announcement.the-variants.{Announced}
 use Rattle.choice.specs.declared.Candidate.{Candidate}
 use Rattle.choice.specs.declared.Candidate.the-variants.{Nothing, Clock}
 use Rattle.frame.specs.Read.{readOf, readNo}
@@ -29,7 +33,7 @@ use Rattle.frame.specs.declared.Reading.the-variants.{Frame}
 use Rattle.port.specs.Record.{usedPort}
 use Rattle.port.specs.Receive.{notedPort}
 use Rattle.port.specs.declared.Preceding.the-variants.{Was}
-use Rattle.table.specs.Table.{portAt, samplesAt, candidatesFrom}
+use Rattle.table.specs.Table.{portAt, samplesAt, candidatesFrom, numberOf}
 use Rattle.table.specs.Arguments.{bit, sendRefusal, maskBeyond}
 use Rattle.bridge.specs.State.{withPort, withClock}
 use Rattle.bridge.specs.Setup.{noBridge}
@@ -37,6 +41,7 @@ use Rattle.bridge.specs.Links.{linksOf, linkNo}
 use Rattle.bridge.specs.Own.{ownClockOf}
 use Rattle.bridge.specs.Receive.{receiveOf}
 use Rattle.bridge.specs.Age.{ageOf}
+use Rattle.bridge.specs.Chosen.{chosenOf}
 use Rattle.bridge.specs.Send.{chosenSamples, sendOf}
 use Rattle.bridge.specs.declared.Bridge.{Bridge}
 use Rattle.bridge.specs.declared.Done.{Done}
@@ -149,6 +154,11 @@ unfoldable pub run : Bridge → List Call → Bridge
 run b [] = b
 run b (c ∷ cs) = run (after b c) cs
 
+-- what is reckoned along the calls, from x on: `step` says what each of them makes of it, by the state before it
+unfoldable pub along : {A : Type 0} → (Bridge → Call → A → A) → Bridge → List Call → A → A
+along step b [] x = x
+along step b (c ∷ cs) x = along step (after b c) cs (step b c x)
+
 -- how many sends of the port at index i used a frameCount since its link came up: none once its link goes down, one more with
 -- each send that is refused by its number alone no more
 abbrev pub usedBy : ℕ → Bridge → Call → ℕ → ℕ
@@ -158,6 +168,40 @@ usedBy i b (receive port frame arrival) n = n
 usedBy i b (age at) n = n
 usedBy i b (send port t room) n = cond (eqb (sendRefusal (b .setup .n) (b .links) port t room) 0) (cond (eqb (port - 1) i) (n + 1) n) n
 
-unfoldable pub used : ℕ → Bridge → List Call → ℕ → ℕ
-used i b [] n = n
-used i b (c ∷ cs) n = used i (after b c) cs (usedBy i b c n)
+abbrev pub used : ℕ → Bridge → List Call → ℕ → ℕ
+used i = along (usedBy i)
+
+-- the frame that the port at index i took last, and no bytes before the first: a frame is taken where receive answers 0
+abbrev pub takenBy : ℕ → Bridge → Call → List ℕ → List ℕ
+takenBy i b (links mask) last = last
+takenBy i b (own-clock count seconds fraction at) last = last
+takenBy i b (receive port frame arrival) last = cond (eqb (receiveOf b port frame arrival .answer) 0) (cond (eqb (port - 1) i) frame last) last
+takenBy i b (age at) last = last
+takenBy i b (send port t room) last = last
+
+abbrev pub lastTaken : ℕ → Bridge → List Call → List ℕ
+lastTaken i b cs = along (takenBy i) b cs []
+
+-- ---- hops
+
+-- hopCount stands in this byte of a frame
+abbrev pub hopAt : List ℕ → ℕ
+hopAt bytes = numberAt bytes 29 1
+
+-- what a port announces of a frame that it took: the frame's precedence, at a held hop above the frame's and at most the last
+pub record HeldAbove (frame : List ℕ) (announcement : Announcement) : Type 0 where
+  pub fields : Fields
+  pub read : readOf frame ≡ Frame fields
+  pub held : ℕ
+  pub heardAt : LocalTime
+  pub announced : announcement ≡ Announced (fields .precedence) held heardAt
+  pub rises : hopAt frame < held
+  pub within : held ≤ lastHop
+
+-- a frame that was heard is passed on by one that is sent: its clock is the chosen one, and the hop has risen, to the last at most
+pub record PassedOn (b : Bridge) (heard sent : List ℕ) : Type 0 where
+  pub fields : Fields
+  pub read : readOf heard ≡ Frame fields
+  pub chosen : chosenOf b ≡ Clock (fields .precedence) (hopAt sent) (numberOf (chosenOf b))
+  pub rises : hopAt heard < hopAt sent
+  pub within : hopAt sent ≤ lastHop

@@ -1,4 +1,4 @@
-//! Counts how often each call gave each answer.
+//! Counts how often each call gave each answer, and how the frames that were taken came by their held hops.
 
 use super::latches;
 use super::pen::answer_of;
@@ -6,6 +6,9 @@ use crate::answer::{
     Answer, BAD_LINE, DONE, NO_CLOCK, NO_GRAND_TIME, OUT_OF_RANGE, OUT_OF_REACH, TOO_FEW_SAMPLES,
 };
 use crate::bridge::Listed;
+use crate::frame::AT_HOP;
+use crate::hex;
+use crate::rules::HOP_NONE;
 use crate::times::{distance, is_local};
 use std::cmp::Ordering;
 use std::fmt;
@@ -81,6 +84,68 @@ fn side(latch: u64, bridge: &Listed) -> usize {
     }
 }
 
+/// How a frame that was taken came by its held hop: a single step; from beyond the chosen clock, half of the way left, or the least step where that is none.
+const WAYS: [&str; 3] = ["step", "jump", "least"];
+const STEP: usize = 0;
+const JUMP: usize = 1;
+const LEAST: usize = 2;
+/// The greatest hop half of whose way left is a whole step.
+const JUMP_MOST: u8 = HOP_NONE - 2;
+
+/// Counts of the frames that were taken by the way in which they came by their held hop.
+#[derive(Default)]
+pub struct HopCensus {
+    chosen: Option<u8>,
+    counts: [u64; WAYS.len()],
+}
+
+impl HopCensus {
+    /// Counts a line with its answer, where it is a frame that was taken, and notes the chosen hop after it.
+    fn count(&mut self, line: &[u8], reply: &[u8], bridge: &Listed) {
+        if let Some(hop) = heard_hop(line).filter(|_| answer_of(reply) == DONE) {
+            let chosen = self.chosen.unwrap_or(HOP_NONE);
+            self.counts[way(chosen, hop)] += 1;
+        }
+        self.chosen = bridge.best().map(|chosen| chosen.hop);
+    }
+
+    /// Gives the ways that were never seen.
+    fn missing(&self) -> Vec<&str> {
+        WAYS.into_iter()
+            .zip(self.counts)
+            .filter(|(_, count)| *count == 0)
+            .map(|(way, _)| way)
+            .collect()
+    }
+}
+
+impl fmt::Display for HopCensus {
+    /// Prints a row with a column for each way.
+    fn fmt(&self, out: &mut fmt::Formatter) -> fmt::Result {
+        write!(out, "hops taken")?;
+        for (way, count) in WAYS.iter().zip(self.counts) {
+            write!(out, ", {way} {count}")?;
+        }
+        writeln!(out, ", missing {:?}", self.missing())
+    }
+}
+
+/// Gives the hop of the frame in a line that has one received.
+fn heard_hop(line: &[u8]) -> Option<u8> {
+    let fields = line.strip_prefix(b"R ")?;
+    let frame = fields.rsplit(|letter| *letter == b' ').next()?;
+    hex::byte(frame.get(2 * AT_HOP..2 * AT_HOP + 2)?)
+}
+
+/// Gives the way in which a hop comes by its held one.
+fn way(chosen: u8, hop: u8) -> usize {
+    match hop {
+        _ if hop <= chosen => STEP,
+        ..=JUMP_MOST => JUMP,
+        _ => LEAST,
+    }
+}
+
 /// Prints a row of numbers.
 fn put_row<T: fmt::Display>(out: &mut fmt::Formatter, name: &str, row: &[T]) -> fmt::Result {
     write!(out, "{name:<9}")?;
@@ -103,12 +168,14 @@ pub struct Census {
     parts: u64,
     no_parts: u64,
     stamps: StampCensus,
+    hops: HopCensus,
 }
 
 impl Census {
     /// Counts a line with its answer and the bridge after it.
     pub fn count(&mut self, line: &[u8], reply: &[u8], bridge: &Listed) {
         self.lines += 1;
+        self.hops.count(line, reply, bridge);
         if reply == b"0E" {
             self.bad += 1;
             return;
@@ -149,6 +216,7 @@ impl Census {
     pub fn complete(&self) -> bool {
         self.missing().is_empty()
             && self.stamps.missing().is_empty()
+            && self.hops.missing().is_empty()
             && self.stamps.counts[NOWHERE][usize::from(OUT_OF_RANGE)] > 0
     }
 
@@ -176,6 +244,7 @@ impl fmt::Display for Census {
         )?;
         writeln!(out, "B    part {}, none {}", self.parts, self.no_parts)?;
         writeln!(out, "D    readings {}", self.readings)?;
+        write!(out, "{}", self.hops)?;
         writeln!(out, "no call (14) {}", self.bad)?;
         writeln!(out, "lines {}", self.lines)?;
         writeln!(out, "answers missing {:?}", self.missing())

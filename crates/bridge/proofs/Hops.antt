@@ -1,0 +1,252 @@
+-- Hops rise: the held hop of a frame that is taken lies above the frame's and is at most the last, so every frame that is passed on
+-- has a greater hop than the one that was heard.
+use mathlib.Core.Path.{_≡_, refl, sym, ap, _∙_, subst}
+use mathlib.Core.Bool.{Bool, true, false, cond, _&&_}
+use mathlib.Core.List.{List, []}
+use mathlib.Core.Logic.{_⊎_, inl, inr, ⊎-elim}
+use Prim.Native.Nat.{ℕ, zero, suc, _-_, _<_, _≤_}
+use native.Mathlib.Omega.{arith}
+use borrow.Author.Tests.{eqb-true, eqb-false}
+use lib.Dec.{eqb, leb}
+use lib.ListN.{length, set}
+use lib.Seq.{getD-set-same, getD-set-other}
+use Rattle.numbers.specs.Digits.{Bytes}
+use Rattle.times.specs.Times.{circle}
+use Rattle.choice.specs.Hop.{lastHop, hopOf}
+use Rattle.choice.specs.Choose.{chosenHop}
+use Rattle.choice.specs.declared.Announcement.{Announcement}
+use Rattle.choice.specs.declared.Announcement.the-variants.{Silent, Announced}
+use Rattle.choice.specs.declared.Candidate.{Candidate}
+use Rattle.choice.specs.declared.Candidate.the-variants.{Nothing, Clock}
+use Rattle.frame.specs.Frame.{fieldsOf}
+use Rattle.frame.specs.Read.{rowsOf, readRefusal, readOf}
+use Rattle.frame.specs.declared.Fields.{Fields}
+use Rattle.frame.specs.declared.Reading.{Reading}
+use Rattle.frame.specs.declared.Reading.the-variants as Readings
+use Rattle.port.specs.Record.{emptyPort, agedPort}
+use Rattle.port.specs.Receive.{takenPort, receivedOf}
+use Rattle.port.specs.declared.Port.{Port}
+use Rattle.port.specs.declared.PortDone.{PortDone}
+use Rattle.table.specs.Table.{portAt, mostPorts, relinkedPort, numberOf}
+use Rattle.table.specs.Arguments.{bit, portRefusal, sendRefusal, ownClockRefusal, maskBeyond}
+use Rattle.table.specs.declared.Setup.{Setup}
+use Rattle.bridge.specs.State.{Lawful, withPort}
+use Rattle.bridge.specs.Setup.{setupOf}
+use Rattle.bridge.specs.Links.{linksOf}
+use Rattle.bridge.specs.Own.{ownClockOf}
+use Rattle.bridge.specs.Receive.{delayAt, readBy, receiveFieldsOf, receiveOf}
+use Rattle.bridge.specs.Age.{ageOf}
+use Rattle.bridge.specs.Chosen.{chosenOf}
+use Rattle.bridge.specs.Send.{sendOf, sendBytes}
+use Rattle.bridge.specs.Demands.{Call, links, own-clock, receive, age, send, after, run, takenBy, lastTaken, hopAt, HeldAbove, PassedOn}
+use Rattle.bridge.specs.declared.Bridge.{Bridge}
+use Rattle.bridge.specs.declared.Done.{Done}
+use Rattle.bridge.specs.declared.Linked.{Linked}
+use Rattle.numbers.proofs.Branches.{if-when}
+use Rattle.numbers.proofs.Places.{number-at-small}
+use Rattle.choice.proofs.HopLaws.{hop-rises, hop-within}
+use Rattle.frame.proofs.FrameLaws.{accepted, reading, promised, framed}
+use Rattle.frame.proofs.Trip.{hop-number}
+use Rattle.port.proofs.PortLaws.{aged-is, received-is, received-last-hop}
+use Rattle.table.proofs.CheckLaws.{Ready, port-ready}
+use Rattle.bridge.proofs.StateLaws.{chosen-number}
+use Rattle.bridge.proofs.Refused.{receive-answers}
+use Rattle.bridge.proofs.Records.{replaced, each-record, eight-records, record-run}
+use Rattle.bridge.proofs.Line.{sent-frame-hop}
+use Rattle.bridge.proofs.Least.{chosen-announced}
+
+-- ---- a frame that is taken
+
+-- what a receive that answers 0 did: the frame was read, its hop is not the last, and the port's record is one that holds it
+record Took (b : Bridge) (port : ℕ) (frame : List ℕ) (arrival : ℕ) (next : Bridge) : Type 0 where
+  pub fields : Fields
+  pub read : readOf frame ≡ Readings.Frame fields
+  pub ready : Ready (b .setup .n) port arrival
+  pub other : fields .hop ≡ lastHop → ⊥
+  pub stored : Port
+  pub announced : stored .announcement ≡ Announced (fields .precedence) (hopOf (fields .hop) (chosenHop (chosenOf b))) (record { 0 = arrival })
+  pub state : next ≡ withPort b (port - 1) stored
+
+-- a refusal by the frame's bytes is no 0
+refused-by-bytes : (s : List ℕ) (k : ℕ) → readOf s ≡ Readings.Refused k → k ≡ 0 → ⊥
+refused-by-bytes s k q z =
+    let number : k ≡ readRefusal s = promised s (Readings.Refused k) (sym q) .number in
+    let taken : Readings.Frame (fieldsOf (rowsOf s)) ≡ readOf s = framed 0 s (sym z ∙ number) refl in
+    let clash : _≡_ {A = ℕ} 0 1 = cc in
+    absurd (omega arith)
+
+took : (b : Bridge) (port : ℕ) (frame : List ℕ) (arrival : ℕ) → receiveOf b port frame arrival .answer ≡ 0 → Took b port frame arrival (receiveOf b port frame arrival .next)
+unfolding receiveOf receiveFieldsOf
+took b port frame arrival =
+    if-when (λ (d : Done). d .answer ≡ 0 → Took b port frame arrival (d .next)) (eqb (portRefusal (b .setup .n) (b .links) port arrival) 0)
+    (λ q. by (readOf frame) refl (port-ready (b .setup .n) (b .links) port arrival (eqb-true _ _ q)))
+    (λ q z. absurd (eqb-false _ _ q z))
+  where
+    held : Port
+    held = portAt (b .ports) (port - 1)
+
+    by : (r : Reading) → readOf frame ≡ r → Ready (b .setup .n) port arrival → readBy b (port - 1) r (record { 0 = arrival }) .answer ≡ 0
+        → Took b port frame arrival (readBy b (port - 1) r (record { 0 = arrival }) .next)
+    by (Readings.Refused k) q h z = absurd (refused-by-bytes frame k q z)
+    by (Readings.Frame f) q h z =
+        let hop = chosenHop (chosenOf b) in
+        let other : f .hop ≡ lastHop → ⊥ = λ e. let s : 7 ≡ receivedOf (delayAt b (port - 1)) hop f (record { 0 = arrival }) held .answer
+        = ap (λ (d : PortDone). d .answer) (received-last-hop (delayAt b (port - 1)) hop f (record { 0 = arrival }) held e) in absurd (omega (arith, s, z)) in
+        received-is (delayAt b (port - 1)) hop f (record { 0 = arrival }) held
+        (λ (d : PortDone). d .answer ≡ 0 → Took b port frame arrival (withPort b (port - 1) (d .port)))
+        (λ k l _ e. absurd (omega arith))
+        (λ count p delay _ _. record {
+          fields = f;
+          read = q;
+          ready = h;
+          other = other;
+          stored = takenPort f (hopOf (f .hop) hop) p delay (record { 0 = arrival }) held;
+          announced = refl;
+          state = refl;
+        })
+        z
+
+-- the record that it left holds the frame above its hop
+held-above : {b : Bridge} {port : ℕ} {frame : List ℕ} {arrival : ℕ} {next : Bridge} → Took b port frame arrival next → port - 1 < length (b .ports) → Bytes frame
+    → HeldAbove frame (portAt (next .ports) (port - 1) .announcement)
+held-above {b} {port} {frame} {arrival} {next} t l bytes =
+    let f = t .fields in
+    let hop = chosenHop (chosenOf b) in
+    let same = hop-number frame f (t .read) in
+    let long = accepted frame (reading frame f (t .read) .0) .sized in
+    let small = number-at-small frame bytes 29 1 (omega (arith, long)) in
+    let low : f .hop < lastHop = omega (arith, same, small, t .other) in
+    record {
+      fields = f;
+      read = t .read;
+      held = hopOf (f .hop) hop;
+      heardAt = record { 0 = arrival };
+      announced =
+          ap (λ (n : Bridge). portAt (n .ports) (port - 1) .announcement) (t .state)
+          ∙ ap (λ (p : Port). p .announcement) (getD-set-same (b .ports) (port - 1) (t .stored) emptyPort l)
+          ∙ t .announced;
+      rises = subst (λ (n : ℕ). n < hopOf (f .hop) hop) same (hop-rises (f .hop) hop);
+      within = hop-within (f .hop) hop low;
+    }
+
+-- HOPS RISE: every frame that is taken is held above its hop, and at the last at most
+pub taken-rises : (b : Bridge) (port : ℕ) (frame : List ℕ) (arrival : ℕ) → Lawful b → Bytes frame → receiveOf b port frame arrival .answer ≡ 0
+    → HeldAbove frame (portAt (receiveOf b port frame arrival .next .ports) (port - 1) .announcement)
+taken-rises b port frame arrival h bytes e =
+    let t = took b port frame arrival e in
+    held-above t (omega (arith, t .ready .low, t .ready .high, h .ports-most, h .records)) bytes
+
+-- ---- what each call leaves of an announcement
+
+-- what a port announces is the frame that it took last, or nothing
+abbrev Announces : List ℕ → Announcement → Type 0
+Announces last announcement = (announcement ≡ Silent) ⊎ (Bytes last → HeldAbove last announcement)
+
+abbrev announcementOf : Port → Announcement
+announcementOf p = p .announcement
+
+module _ (b : Bridge) (i : ℕ) (last : List ℕ) (h : i < length (b .ports)) (u : Announces last (portAt (b .ports) i .announcement)) where
+  links-announces : (mask : ℕ) → Announces last (portAt (linksOf b mask .next .ports) i .announcement)
+  unfolding linksOf relinkedPort
+  links-announces mask =
+      if-when (λ (d : Linked). Announces last (portAt (d .next .ports) i .announcement)) (maskBeyond (b .setup .n) mask) (λ _. u)
+      (λ _. subst (λ (p : Port). Announces last (p .announcement)) (sym (each-record (relinkedPort (b .links) mask) (b .ports) i h))
+      (if-when (λ (p : Port). Announces last (p .announcement)) (eqb (bit (b .links) i) 1 && eqb (bit mask i) 0) (λ _. inl refl) (λ _. u)))
+
+  age-announces : (at : ℕ) → Announces last (portAt (ageOf b at .next .ports) i .announcement)
+  unfolding ageOf
+  age-announces at =
+      if-when (λ (d : Done). Announces last (portAt (d .next .ports) i .announcement)) (leb circle at) (λ _. u)
+      (λ _. subst (λ (p : Port). Announces last (p .announcement)) (sym (each-record (λ _. agedPort (record { 0 = at }) (b .setup .timeout)) (b .ports) i h))
+      (aged-is (record { 0 = at }) (b .setup .timeout) (portAt (b .ports) i) (λ (p : Port). Announces last (p .announcement)) u (inl refl)))
+
+  -- a record replaced by one with the same announcement, at any port
+  replaced-announces : (j : ℕ) (p : Port) → p .announcement ≡ portAt (b .ports) j .announcement → Announces last (portAt (set (b .ports) j p) i .announcement)
+  replaced-announces j p e = subst (Announces last) (sym (replaced announcementOf (b .ports) j p e i)) u
+
+  -- a frame that is taken, at this port or at another one
+  taken-announces : (port : ℕ) (frame : List ℕ) (arrival : ℕ) → receiveOf b port frame arrival .answer ≡ 0
+      → (s : Bool) → eqb (port - 1) i ≡ s → Announces (cond s frame last) (portAt (receiveOf b port frame arrival .next .ports) i .announcement)
+  taken-announces port frame arrival e true q =
+      let here : port - 1 ≡ i = eqb-true _ _ q in
+      inr (λ bytes. subst (λ (j : ℕ). HeldAbove frame (portAt (receiveOf b port frame arrival .next .ports) j .announcement)) here
+      (held-above (took b port frame arrival e) (omega (arith, here, h)) bytes))
+  taken-announces port frame arrival e false q =
+      let t = took b port frame arrival e in
+      let elsewhere : portAt (set (b .ports) (port - 1) (t .stored)) i ≡ portAt (b .ports) i
+      = getD-set-other (b .ports) (port - 1) i (t .stored) emptyPort (λ z. eqb-false _ _ q (sym z)) in
+      subst (λ (x : Bridge). Announces last (portAt (x .ports) i .announcement)) (sym (t .state)) (subst (λ (p : Port). Announces last (p .announcement)) (sym elsewhere) u)
+
+  -- a frame that is refused leaves every announcement
+  refused-announces : (port : ℕ) (frame : List ℕ) (arrival : ℕ) → (receiveOf b port frame arrival .answer ≡ 0 → ⊥)
+      → Announces last (portAt (receiveOf b port frame arrival .next .ports) i .announcement)
+  refused-announces port frame arrival n =
+      ⊎-elim (λ z. absurd (n z))
+      (⊎-elim
+      (λ r. subst (λ (x : Bridge). Announces last (portAt (x .ports) i .announcement)) (sym (r .1)) u)
+      (λ r. subst (λ (x : Bridge). Announces last (portAt (x .ports) i .announcement)) (sym (r .1 .2)) (replaced-announces (port - 1) _ refl)))
+      (receive-answers b port frame arrival)
+
+  receive-announces : (port : ℕ) (frame : List ℕ) (arrival : ℕ)
+      → Announces (takenBy i b (receive port frame arrival) last) (portAt (receiveOf b port frame arrival .next .ports) i .announcement)
+  receive-announces port frame arrival = by (eqb (receiveOf b port frame arrival .answer) 0) refl
+    where
+      by : (s : Bool) → eqb (receiveOf b port frame arrival .answer) 0 ≡ s
+          → Announces (cond s (cond (eqb (port - 1) i) frame last) last) (portAt (receiveOf b port frame arrival .next .ports) i .announcement)
+      by true q = taken-announces port frame arrival (eqb-true _ _ q) (eqb (port - 1) i) refl
+      by false q = refused-announces port frame arrival (eqb-false _ _ q)
+
+  after-announces : (c : Call) → Announces (takenBy i b c last) (portAt (after b c .ports) i .announcement)
+  unfolding ownClockOf sendOf
+  after-announces (links mask) = links-announces mask
+  after-announces (own-clock count seconds fraction at) =
+      if-when (λ (d : Done). Announces last (portAt (d .next .ports) i .announcement)) (eqb (ownClockRefusal (b .setup .capable) seconds fraction at) 0) (λ _. u) (λ _. u)
+  after-announces (receive port frame arrival) = receive-announces port frame arrival
+  after-announces (age at) = age-announces at
+  after-announces (send port t room) =
+      if-when (λ (d : Done). Announces last (portAt (d .next .ports) i .announcement)) (eqb (sendRefusal (b .setup .n) (b .links) port t room) 0)
+      (λ _. replaced-announces (port - 1) _ refl)
+      (λ _. u)
+
+-- ---- from Setup on
+
+-- after any calls, what a port announces is the frame that it took last, held above that frame's hop
+run-announces : (s : Setup) (cs : List Call) (i : ℕ) → i < mostPorts → Announces (lastTaken i (setupOf s .next) cs) (portAt (run (setupOf s .next) cs .ports) i .announcement)
+run-announces s cs i h =
+    record-run i (takenBy i) (λ (last : List ℕ) (p : Port). Announces last (p .announcement)) (λ b c last l u. after-announces b i last l u c) s cs [] h (inl refl)
+
+-- AND RISE ON THE WAY: after any calls since Setup, a frame that is sent for a clock that was heard at a port has a greater hop than the frame
+-- that this port took last
+pub passed-on : (s : Setup) (cs : List Call) (port t : ℕ) (out : List ℕ)
+    → let b = run (setupOf s .next) cs in
+    let heard = lastTaken (numberOf (chosenOf b) - 1) (setupOf s .next) cs in
+    0 < numberOf (chosenOf b) → Bytes heard → sendOf b port t (length out) .answer ≡ 0 → PassedOn b heard (sendBytes b port t out)
+passed-on s cs port t out l bytes e = go (chosenOf b) refl (omega arith)
+  where
+    b : Bridge
+    b = run (setupOf s .next) cs
+
+    i : ℕ
+    i = numberOf (chosenOf b) - 1
+
+    go : (c : Candidate) → chosenOf b ≡ c → numberOf c ≡ suc i → PassedOn b (lastTaken i (setupOf s .next) cs) (sendBytes b port t out)
+    go Nothing q n = absurd (omega (arith, n))
+    go (Clock p h k) q n =
+        let number : numberOf (chosenOf b) ≡ k = ap numberOf q in
+        let below : i < mostPorts = omega (arith, n, number, chosen-number b (eight-records s cs)) in
+        let announced = chosen-announced b (q ∙ ap (Clock p h) n) .1 in
+        let above = ⊎-elim
+        (λ silent. let clash : _≡_ {A = ℕ} 0 1 = cc in absurd (omega arith))
+        (λ above. above bytes)
+        (run-announces s cs i below) in
+        let same = sym announced ∙ above .announced in
+        let clock : p ≡ above .fields .precedence = cc in
+        let held : h ≡ above .held = cc in
+        let sent : hopAt (sendBytes b port t out) ≡ h = sent-frame-hop b port t out q (omega (arith, held, above .within)) e in
+        record {
+          fields = above .fields;
+          read = above .read;
+          chosen = q ∙ (λ j. Clock (clock j) (sym sent j) (sym number j));
+          rises = omega (arith, above .rises, held, sent);
+          within = omega (arith, above .within, held, sent);
+        }
