@@ -164,18 +164,21 @@ module _ (b : Bridge) (i : ℕ) (last : List ℕ) (h : i < length (b .ports)) (u
   replaced-announces : (j : ℕ) (p : Port) → p .announcement ≡ portAt (b .ports) j .announcement → Announces last (portAt (set (b .ports) j p) i .announcement)
   replaced-announces j p e = subst (Announces last) (sym (replaced announcementOf (b .ports) j p e i)) u
 
-  -- a frame that is taken, at this port or at another one
-  taken-announces : (port : ℕ) (frame : List ℕ) (arrival : ℕ) → receiveOf b port frame arrival .answer ≡ 0
-      → (s : Bool) → eqb (port - 1) i ≡ s → Announces (cond s frame last) (portAt (receiveOf b port frame arrival .next .ports) i .announcement)
-  taken-announces port frame arrival e true q =
-      let here : port - 1 ≡ i = eqb-true _ _ q in
+  -- a frame that is taken at this port
+  here-announces : (port : ℕ) (frame : List ℕ) (arrival : ℕ) → receiveOf b port frame arrival .answer ≡ 0 → port - 1 ≡ i
+      → Announces frame (portAt (receiveOf b port frame arrival .next .ports) i .announcement)
+  here-announces port frame arrival e here =
       inr (λ bytes. subst (λ (j : ℕ). HeldAbove frame (portAt (receiveOf b port frame arrival .next .ports) j .announcement)) here
       (held-above (took b port frame arrival e) (omega (arith, here, h)) bytes))
-  taken-announces port frame arrival e false q =
+
+  -- and one that is taken at another
+  elsewhere-announces : (port : ℕ) (frame : List ℕ) (arrival : ℕ) → receiveOf b port frame arrival .answer ≡ 0 → (port - 1 ≡ i → ⊥)
+      → Announces last (portAt (receiveOf b port frame arrival .next .ports) i .announcement)
+  elsewhere-announces port frame arrival e elsewhere =
       let t = took b port frame arrival e in
-      let elsewhere : portAt (set (b .ports) (port - 1) (t .stored)) i ≡ portAt (b .ports) i
-      = getD-set-other (b .ports) (port - 1) i (t .stored) emptyPort (λ z. eqb-false _ _ q (sym z)) in
-      subst (λ (x : Bridge). Announces last (portAt (x .ports) i .announcement)) (sym (t .state)) (subst (λ (p : Port). Announces last (p .announcement)) (sym elsewhere) u)
+      let same : portAt (set (b .ports) (port - 1) (t .stored)) i ≡ portAt (b .ports) i
+      = getD-set-other (b .ports) (port - 1) i (t .stored) emptyPort (λ z. elsewhere (sym z)) in
+      subst (λ (x : Bridge). Announces last (portAt (x .ports) i .announcement)) (sym (t .state)) (subst (λ (p : Port). Announces last (p .announcement)) (sym same) u)
 
   -- a frame that is refused leaves every announcement
   refused-announces : (port : ℕ) (frame : List ℕ) (arrival : ℕ) → (receiveOf b port frame arrival .answer ≡ 0 → ⊥)
@@ -189,12 +192,13 @@ module _ (b : Bridge) (i : ℕ) (last : List ℕ) (h : i < length (b .ports)) (u
 
   receive-announces : (port : ℕ) (frame : List ℕ) (arrival : ℕ)
       → Announces (takenBy i b (receive port frame arrival) last) (portAt (receiveOf b port frame arrival .next .ports) i .announcement)
-  receive-announces port frame arrival = by (eqb (receiveOf b port frame arrival .answer) 0) refl
-    where
-      by : (s : Bool) → eqb (receiveOf b port frame arrival .answer) 0 ≡ s
-          → Announces (cond s (cond (eqb (port - 1) i) frame last) last) (portAt (receiveOf b port frame arrival .next .ports) i .announcement)
-      by true q = taken-announces port frame arrival (eqb-true _ _ q) (eqb (port - 1) i) refl
-      by false q = refused-announces port frame arrival (eqb-false _ _ q)
+  receive-announces port frame arrival =
+      let Left : List ℕ → Type 0 = λ (x : List ℕ). Announces x (portAt (receiveOf b port frame arrival .next .ports) i .announcement) in
+      if-when Left _
+      (λ q. if-when Left _
+      (λ s. here-announces port frame arrival (eqb-true _ _ q) (eqb-true _ _ s))
+      (λ s. elsewhere-announces port frame arrival (eqb-true _ _ q) (eqb-false _ _ s)))
+      (λ q. refused-announces port frame arrival (eqb-false _ _ q))
 
   after-announces : (c : Call) → Announces (takenBy i b c last) (portAt (after b c .ports) i .announcement)
   unfolding ownClockOf sendOf

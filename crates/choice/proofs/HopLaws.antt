@@ -1,7 +1,6 @@
--- Laws of the held hop: what each case of the jump and of the step comes to, and that a held hop lies above the frame's and is at most the last.
-use mathlib.Core.Path.{_≡_, sym}
-use Prim.Native.Nat.{ℕ, _+_, _-_, _/_, _<_, _≤_}
-use native.Mathlib.Nat.{max-eq-left, max-eq-right, le-max-left, max-le}
+-- Laws of the held hop: one for each arm, and that it lies above the frame's hop and is at most the last.
+use mathlib.Core.Path.{_≡_}
+use Prim.Native.Nat.{ℕ, _+_, _<_, _≤_}
 use native.Mathlib.Omega.{arith}
 use borrow.Author.Tests.{lt-ltb, le-ltb}
 use lib.Dec.{ltb}
@@ -10,23 +9,14 @@ use Rattle.numbers.proofs.Branches.{if-when}
 
 -- ---- the jump
 
--- where half of what is left is a step or more, it is the half
-pub half-jump : (h : ℕ) → 1 ≤ (lastHop - h) / 2 → (lastHop - h) / 2 ≡ jumpOf h
-unfolding jumpOf
-half-jump h k = sym (max-eq-right k)
-
--- else it is a single step
-pub least-jump : (h : ℕ) → (lastHop - h) / 2 ≤ 1 → 1 ≡ jumpOf h
-unfolding jumpOf
-least-jump h k = sym (max-eq-left k)
-
+-- a jump is a step or more, and does not pass the last hop
 jump-rises : (h : ℕ) → 1 ≤ jumpOf h
 unfolding jumpOf
-jump-rises h = le-max-left 1 ((lastHop - h) / 2)
+jump-rises h = omega arith
 
 pub jump-within : (h : ℕ) → h < lastHop → h + jumpOf h ≤ lastHop
 unfolding jumpOf
-jump-within h l = omega (arith, max-le {a = 1} {b = (lastHop - h) / 2} {k = lastHop - h} (omega arith) (omega arith))
+jump-within h l = omega arith
 
 -- ---- the held hop
 
