@@ -1,17 +1,20 @@
 -- Hops rise: the held hop of a frame that is taken lies above the frame's and is at most the last, so every frame that is passed on
 -- has a greater hop than the one that was heard.
 use mathlib.Core.Path.{_≡_, refl, sym, ap, _∙_, subst}
-use mathlib.Core.Bool.{Bool, true, false, cond, _&&_}
+use mathlib.Core.Bool.{_&&_}
 use mathlib.Core.List.{List, []}
 use mathlib.Core.Logic.{_⊎_, inl, inr, ⊎-elim}
-use Prim.Native.Nat.{ℕ, zero, suc, _-_, _<_, _≤_}
+use Prim.Native.Nat.{ℕ, suc, _-_, _<_}
 use native.Mathlib.Omega.{arith}
 use borrow.Author.Tests.{eqb-true, eqb-false}
 use lib.Dec.{eqb, leb}
 use lib.ListN.{length, set}
 use lib.Seq.{getD-set-same, getD-set-other}
 use Rattle.numbers.specs.Digits.{Bytes}
+use Rattle.refusals.specs.Refusals.{lastHopHeard}
 use Rattle.times.specs.Times.{circle}
+use Rattle.times.specs.declared.LocalTime.{LocalTime}
+use Rattle.delay.specs.declared.DelaySetting.{DelaySetting}
 use Rattle.choice.specs.Hop.{lastHop, hopOf}
 use Rattle.choice.specs.Choose.{chosenHop}
 use Rattle.choice.specs.declared.Announcement.{Announcement}
@@ -49,7 +52,7 @@ use Rattle.frame.proofs.FrameLaws.{accepted, reading, promised, framed}
 use Rattle.frame.proofs.Trip.{hop-number}
 use Rattle.port.proofs.PortLaws.{aged-is, received-is, received-last-hop}
 use Rattle.table.proofs.CheckLaws.{Ready, port-ready}
-use Rattle.bridge.proofs.StateLaws.{chosen-number}
+use Rattle.bridge.proofs.StateLaws.{receive-read, chosen-number}
 use Rattle.bridge.proofs.Refused.{receive-answers}
 use Rattle.bridge.proofs.Records.{replaced, each-record, eight-records, record-run}
 use Rattle.bridge.proofs.Line.{sent-frame-hop}
@@ -62,7 +65,7 @@ record Took (b : Bridge) (port : ℕ) (frame : List ℕ) (arrival : ℕ) (next :
   pub fields : Fields
   pub read : readOf frame ≡ Readings.Frame fields
   pub ready : Ready (b .setup .n) port arrival
-  pub other : fields .hop ≡ lastHop → ⊥
+  pub not-last : fields .hop ≡ lastHop → ⊥
   pub stored : Port
   pub announced : stored .announcement ≡ Announced (fields .precedence) (hopOf (fields .hop) (chosenHop (chosenOf b))) (record { 0 = arrival })
   pub state : next ≡ withPort b (port - 1) stored
@@ -74,6 +77,12 @@ refused-by-bytes s k q z =
     let taken : Readings.Frame (fieldsOf (rowsOf s)) ≡ readOf s = framed 0 s (sym z ∙ number) refl in
     let clash : _≡_ {A = ℕ} 0 1 = cc in
     absurd (omega arith)
+
+-- a frame that is taken has another hop than the last
+taken-not-last : (setting : DelaySetting) (chosen : ℕ) (f : Fields) (at : LocalTime) (port : Port) → receivedOf setting chosen f at port .answer ≡ 0 → f .hop ≡ lastHop → ⊥
+taken-not-last setting chosen f at port z e =
+    let seven : 7 ≡ receivedOf setting chosen f at port .answer = ap (λ (d : PortDone). d .answer) (received-last-hop setting chosen f at port e) in
+    absurd (omega (arith, seven, z))
 
 took : (b : Bridge) (port : ℕ) (frame : List ℕ) (arrival : ℕ) → receiveOf b port frame arrival .answer ≡ 0 → Took b port frame arrival (receiveOf b port frame arrival .next)
 unfolding receiveOf receiveFieldsOf
@@ -90,8 +99,6 @@ took b port frame arrival =
     by (Readings.Refused k) q h z = absurd (refused-by-bytes frame k q z)
     by (Readings.Frame f) q h z =
         let hop = chosenHop (chosenOf b) in
-        let other : f .hop ≡ lastHop → ⊥ = λ e. let s : 7 ≡ receivedOf (delayAt b (port - 1)) hop f (record { 0 = arrival }) held .answer
-        = ap (λ (d : PortDone). d .answer) (received-last-hop (delayAt b (port - 1)) hop f (record { 0 = arrival }) held e) in absurd (omega (arith, s, z)) in
         received-is (delayAt b (port - 1)) hop f (record { 0 = arrival }) held
         (λ (d : PortDone). d .answer ≡ 0 → Took b port frame arrival (withPort b (port - 1) (d .port)))
         (λ k l _ e. absurd (omega arith))
@@ -99,7 +106,7 @@ took b port frame arrival =
           fields = f;
           read = q;
           ready = h;
-          other = other;
+          not-last = taken-not-last (delayAt b (port - 1)) hop f (record { 0 = arrival }) held z;
           stored = takenPort f (hopOf (f .hop) hop) p delay (record { 0 = arrival }) held;
           announced = refl;
           state = refl;
@@ -115,7 +122,7 @@ held-above {b} {port} {frame} {arrival} {next} t l bytes =
     let same = hop-number frame f (t .read) in
     let long = accepted frame (reading frame f (t .read) .0) .sized in
     let small = number-at-small frame bytes 29 1 (omega (arith, long)) in
-    let low : f .hop < lastHop = omega (arith, same, small, t .other) in
+    let low : f .hop < lastHop = omega (arith, same, small, t .not-last) in
     record {
       fields = f;
       read = t .read;
@@ -129,12 +136,22 @@ held-above {b} {port} {frame} {arrival} {next} t l bytes =
       within = hop-within (f .hop) hop low;
     }
 
--- HOPS RISE: every frame that is taken is held above its hop, and at the last at most
+-- every frame that is taken is held above its hop, and at the last at most
 pub taken-rises : (b : Bridge) (port : ℕ) (frame : List ℕ) (arrival : ℕ) → Lawful b → Bytes frame → receiveOf b port frame arrival .answer ≡ 0
     → HeldAbove frame (portAt (receiveOf b port frame arrival .next .ports) (port - 1) .announcement)
 taken-rises b port frame arrival h bytes e =
     let t = took b port frame arrival e in
     held-above t (omega (arith, t .ready .low, t .ready .high, h .ports-most, h .records)) bytes
+
+-- a frame with the last hop goes no farther: every station that reads it refuses it with 7
+pub last-hop-refused : (b : Bridge) (port : ℕ) (frame : List ℕ) (arrival : ℕ) (f : Fields) → readOf frame ≡ Readings.Frame f → hopAt frame ≡ lastHop
+    → portRefusal (b .setup .n) (b .links) port arrival ≡ 0 → receiveOf b port frame arrival .answer ≡ lastHopHeard
+unfolding receiveFieldsOf
+last-hop-refused b port frame arrival f read last clear =
+    let i = port - 1 in
+    let at : LocalTime = record { 0 = arrival } in
+    ap (λ (d : Done). d .answer) (sym (receive-read b port frame arrival 0 (sym clear) (Readings.Frame f) refl (sym read)))
+    ∙ ap (λ (d : PortDone). d .answer) (sym (received-last-hop (delayAt b i) (chosenHop (chosenOf b)) f at (portAt (b .ports) i) (hop-number frame f read ∙ last)))
 
 -- ---- what each call leaves of an announcement
 
@@ -219,8 +236,8 @@ run-announces : (s : Setup) (cs : List Call) (i : ℕ) → i < mostPorts → Ann
 run-announces s cs i h =
     record-run i (takenBy i) (λ (last : List ℕ) (p : Port). Announces last (p .announcement)) (λ b c last l u. after-announces b i last l u c) s cs [] h (inl refl)
 
--- AND RISE ON THE WAY: after any calls since Setup, a frame that is sent for a clock that was heard at a port has a greater hop than the frame
--- that this port took last
+-- a frame's hop rises at each station that passes it on: after any calls since Setup, a frame that is sent for a clock heard at a port has a greater hop
+-- than the frame that this port took last
 pub passed-on : (s : Setup) (cs : List Call) (port t : ℕ) (out : List ℕ)
     → let b = run (setupOf s .next) cs in
     let heard = lastTaken (numberOf (chosenOf b) - 1) (setupOf s .next) cs in

@@ -56,7 +56,7 @@ module _ (b : Bridge) where
       by (Readings.Frame f) = length-set (b .ports) (port - 1) _
 
   -- every call keeps their number
-  pub after-length : (c : Call) → length (after b c .ports) ≡ length (b .ports)
+  after-length : (c : Call) → length (after b c .ports) ≡ length (b .ports)
   unfolding linksOf ownClockOf ageOf sendOf
   after-length (links mask) =
       if-when (λ (d : Linked). length (d .next .ports) ≡ length (b .ports)) (maskBeyond (b .setup .n) mask) (λ _. refl) (λ _. each-length (relinkedPort (b .links) mask) 0 (b .ports))
