@@ -21,14 +21,15 @@ pub const FUNCTION: u8 = 1;
 /// The only known version.
 pub const VERSION: u8 = 1;
 
+/// Where the hop stands.
+pub const AT_HOP: usize = 29;
+
 const AT_DA: Range<usize> = 0..6;
 const AT_SA: Range<usize> = 6..12;
 const AT_PROTOCOL: Range<usize> = 12..14;
 const AT_FUNCTION: usize = 14;
 const AT_VERSION: usize = 15;
 const AT_PRECEDENCE: Range<usize> = 16..29;
-/// Where the hop stands.
-pub const AT_HOP: usize = 29;
 const AT_COUNT: usize = 30;
 const AT_ZERO: usize = 31;
 const AT_GRAND: Range<usize> = 32..42;
