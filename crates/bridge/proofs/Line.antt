@@ -1,5 +1,6 @@
 -- Demand 3 on the frame: where Send answers 0, the ten bytes of grandTime that it wrote lie less than 17 U from the exact line
 -- through the oldest and the newest kept sample of the chosen clock, read at t less backTime, plus backTime, across the wrap.
+-- And what hopCount and frameCount are in it.
 use mathlib.Core.Path.{_≡_, refl, sym, ap, _∙_, subst}
 use mathlib.Core.List.{List}
 use Prim.Native.Nat.{ℕ, _-_, _<_, _≤_}
@@ -98,13 +99,14 @@ sent-frame-count b port t out h e =
     let w = wrote b port t out e in
     ap (λ (l : List ℕ). numberAt l 30 1) (w .bytes) ∙ count-byte (w .fields) (drop frameLength out) (subst (λ (n : ℕ). n < 256) (sym (w .count)) h) ∙ w .count
 
--- byte 29 of a frame that was sent is the chosen clock's held hop
+-- a frame that is sent for a clock has that clock's held hop
 sending-hop : (s : Sent) (mac : Mac) (p : Precedence) (h : ℕ) (t : LocalTime) (port : Port) (f : Fields) → sendingBy s mac p h t port ≡ Frame f → f .hop ≡ h
 sending-hop (At g x) mac p h t port f e = let same : frameOf mac p h t g x port ≡ f = cc in sym (ap (λ (f : Fields). f .hop) same)
 sending-hop Few mac p h t port f e = let clash : _≡_ {A = ℕ} 0 1 = cc in absurd (omega arith)
 sending-hop Late mac p h t port f e = let clash : _≡_ {A = ℕ} 0 1 = cc in absurd (omega arith)
 sending-hop Beyond mac p h t port f e = let clash : _≡_ {A = ℕ} 0 1 = cc in absurd (omega arith)
 
+-- byte 29 of a frame that was sent is the chosen clock's held hop
 pub sent-frame-hop : (b : Bridge) (port t : ℕ) (out : List ℕ) {p : Precedence} {h n : ℕ} → chosenOf b ≡ Clock p h n → h < 256 → sendOf b port t (length out) .answer ≡ 0
     → numberAt (sendBytes b port t out) 29 1 ≡ h
 unfolding sendingAt

@@ -184,9 +184,12 @@ lastTaken i b cs = along (takenBy i) b cs []
 
 -- ---- hops
 
--- hopCount stands in this byte of a frame
+-- hopCount is this byte of a frame
+abbrev pub hopStart : ℕ
+hopStart = 29
+
 abbrev pub hopAt : List ℕ → ℕ
-hopAt bytes = numberAt bytes 29 1
+hopAt bytes = numberAt bytes hopStart 1
 
 -- what a port announces of a frame that it took: the frame's precedence, at a held hop above the frame's and at most the last
 pub record HeldAbove (frame : List ℕ) (announcement : Announcement) : Type 0 where
