@@ -16,7 +16,6 @@ use Rattle.times.specs.Times.{circle}
 use Rattle.times.specs.declared.LocalTime.{LocalTime}
 use Rattle.delay.specs.declared.DelaySetting.{DelaySetting}
 use Rattle.choice.specs.Hop.{lastHop, hopOf}
-use Rattle.choice.specs.Choose.{chosenHop}
 use Rattle.choice.specs.declared.Announcement.{Announcement}
 use Rattle.choice.specs.declared.Announcement.the-variants.{Silent, Announced}
 use Rattle.choice.specs.declared.Candidate.{Candidate}
@@ -27,7 +26,7 @@ use Rattle.frame.specs.declared.Fields.{Fields}
 use Rattle.frame.specs.declared.Reading.{Reading}
 use Rattle.frame.specs.declared.Reading.the-variants as Readings
 use Rattle.port.specs.Record.{emptyPort, agedPort}
-use Rattle.port.specs.Receive.{takenPort, receivedOf}
+use Rattle.port.specs.Receive.{receivedOf}
 use Rattle.port.specs.declared.Port.{Port}
 use Rattle.port.specs.declared.PortDone.{PortDone}
 use Rattle.table.specs.Table.{portAt, mostPorts, relinkedPort, numberOf}
@@ -37,7 +36,7 @@ use Rattle.bridge.specs.State.{Lawful, withPort}
 use Rattle.bridge.specs.Setup.{setupOf}
 use Rattle.bridge.specs.Links.{linksOf}
 use Rattle.bridge.specs.Own.{ownClockOf}
-use Rattle.bridge.specs.Receive.{delayAt, readBy, receiveFieldsOf, receiveOf}
+use Rattle.bridge.specs.Receive.{readBy, receiveFieldsOf, receiveOf}
 use Rattle.bridge.specs.Age.{ageOf}
 use Rattle.bridge.specs.Chosen.{chosenOf}
 use Rattle.bridge.specs.Send.{sendOf, sendBytes}
@@ -60,14 +59,28 @@ use Rattle.bridge.proofs.Least.{chosen-announced}
 
 -- ---- a frame that is taken
 
--- what a receive that answers 0 did: the frame was read, its hop is not the last, and the port's record is one that holds it
+-- a record that holds a frame, which has another hop than the last: the frame's clock is announced, at the hop that is held where the chosen one is `chosen`
+record Holds (f : Fields) (at : LocalTime) (port : Port) : Type 0 where
+  pub chosen : ℕ
+  pub not-last : f .hop ≡ lastHop → ⊥
+  pub announced : port .announcement ≡ Announced (f .precedence) (hopOf (f .hop) chosen) at
+
+holds : (setting : DelaySetting) (chosen : ℕ) (f : Fields) (at : LocalTime) (port : Port) → receivedOf setting chosen f at port .answer ≡ 0
+    → Holds f at (receivedOf setting chosen f at port .port)
+holds setting chosen f at port z =
+    let seven : f .hop ≡ lastHop → 7 ≡ receivedOf setting chosen f at port .answer = λ e. ap (λ (d : PortDone). d .answer) (received-last-hop setting chosen f at port e) in
+    received-is setting chosen f at port (λ (d : PortDone). d .answer ≡ 0 → Holds f at (d .port))
+    (λ k l _ e. absurd (omega arith))
+    (λ count p delay _ _. record { chosen = chosen; not-last = λ e. absurd (omega (arith, seven e, z)); announced = refl })
+    z
+
+-- what a receive that answers 0 did: the frame was read, and the port's record holds it
 record Took (b : Bridge) (port : ℕ) (frame : List ℕ) (arrival : ℕ) (next : Bridge) : Type 0 where
   pub fields : Fields
   pub read : readOf frame ≡ Readings.Frame fields
   pub ready : Ready (b .setup .n) port arrival
-  pub not-last : fields .hop ≡ lastHop → ⊥
   pub stored : Port
-  pub announced : stored .announcement ≡ Announced (fields .precedence) (hopOf (fields .hop) (chosenHop (chosenOf b))) (record { 0 = arrival })
+  pub held : Holds fields (record { 0 = arrival }) stored
   pub state : next ≡ withPort b (port - 1) stored
 
 -- a refusal by the frame's bytes is no 0
@@ -78,12 +91,6 @@ refused-by-bytes s k q z =
     let clash : _≡_ {A = ℕ} 0 1 = cc in
     absurd (omega arith)
 
--- a frame that is taken has another hop than the last
-taken-not-last : (setting : DelaySetting) (chosen : ℕ) (f : Fields) (at : LocalTime) (port : Port) → receivedOf setting chosen f at port .answer ≡ 0 → f .hop ≡ lastHop → ⊥
-taken-not-last setting chosen f at port z e =
-    let seven : 7 ≡ receivedOf setting chosen f at port .answer = ap (λ (d : PortDone). d .answer) (received-last-hop setting chosen f at port e) in
-    absurd (omega (arith, seven, z))
-
 took : (b : Bridge) (port : ℕ) (frame : List ℕ) (arrival : ℕ) → receiveOf b port frame arrival .answer ≡ 0 → Took b port frame arrival (receiveOf b port frame arrival .next)
 unfolding receiveOf receiveFieldsOf
 took b port frame arrival =
@@ -91,49 +98,32 @@ took b port frame arrival =
     (λ q. by (readOf frame) refl (port-ready (b .setup .n) (b .links) port arrival (eqb-true _ _ q)))
     (λ q z. absurd (eqb-false _ _ q z))
   where
-    held : Port
-    held = portAt (b .ports) (port - 1)
-
     by : (r : Reading) → readOf frame ≡ r → Ready (b .setup .n) port arrival → readBy b (port - 1) r (record { 0 = arrival }) .answer ≡ 0
         → Took b port frame arrival (readBy b (port - 1) r (record { 0 = arrival }) .next)
     by (Readings.Refused k) q h z = absurd (refused-by-bytes frame k q z)
-    by (Readings.Frame f) q h z =
-        let hop = chosenHop (chosenOf b) in
-        received-is (delayAt b (port - 1)) hop f (record { 0 = arrival }) held
-        (λ (d : PortDone). d .answer ≡ 0 → Took b port frame arrival (withPort b (port - 1) (d .port)))
-        (λ k l _ e. absurd (omega arith))
-        (λ count p delay _ _. record {
-          fields = f;
-          read = q;
-          ready = h;
-          not-last = taken-not-last (delayAt b (port - 1)) hop f (record { 0 = arrival }) held z;
-          stored = takenPort f (hopOf (f .hop) hop) p delay (record { 0 = arrival }) held;
-          announced = refl;
-          state = refl;
-        })
-        z
+    by (Readings.Frame f) q h z = record { fields = f; read = q; ready = h; stored = _; held = holds _ _ f (record { 0 = arrival }) _ z; state = refl }
 
 -- the record that it left holds the frame above its hop
 held-above : {b : Bridge} {port : ℕ} {frame : List ℕ} {arrival : ℕ} {next : Bridge} → Took b port frame arrival next → port - 1 < length (b .ports) → Bytes frame
     → HeldAbove frame (portAt (next .ports) (port - 1) .announcement)
 held-above {b} {port} {frame} {arrival} {next} t l bytes =
     let f = t .fields in
-    let hop = chosenHop (chosenOf b) in
+    let chosen = t .held .chosen in
     let same = hop-number frame f (t .read) in
     let long = accepted frame (reading frame f (t .read) .0) .sized in
     let small = number-at-small frame bytes 29 1 (omega (arith, long)) in
-    let low : f .hop < lastHop = omega (arith, same, small, t .not-last) in
+    let low : f .hop < lastHop = omega (arith, same, small, t .held .not-last) in
     record {
       fields = f;
       read = t .read;
-      held = hopOf (f .hop) hop;
+      held = hopOf (f .hop) chosen;
       heardAt = record { 0 = arrival };
       announced =
           ap (λ (n : Bridge). portAt (n .ports) (port - 1) .announcement) (t .state)
           ∙ ap (λ (p : Port). p .announcement) (getD-set-same (b .ports) (port - 1) (t .stored) emptyPort l)
-          ∙ t .announced;
-      rises = subst (λ (n : ℕ). n < hopOf (f .hop) hop) same (hop-rises (f .hop) hop);
-      within = hop-within (f .hop) hop low;
+          ∙ t .held .announced;
+      rises = subst (λ (n : ℕ). n < hopOf (f .hop) chosen) same (hop-rises (f .hop) chosen);
+      within = hop-within (f .hop) chosen low;
     }
 
 -- every frame that is taken is held above its hop, and at the last at most
@@ -148,10 +138,8 @@ pub last-hop-refused : (b : Bridge) (port : ℕ) (frame : List ℕ) (arrival : �
     → portRefusal (b .setup .n) (b .links) port arrival ≡ 0 → receiveOf b port frame arrival .answer ≡ lastHopHeard
 unfolding receiveFieldsOf
 last-hop-refused b port frame arrival f read last clear =
-    let i = port - 1 in
-    let at : LocalTime = record { 0 = arrival } in
     ap (λ (d : Done). d .answer) (sym (receive-read b port frame arrival 0 (sym clear) (Readings.Frame f) refl (sym read)))
-    ∙ ap (λ (d : PortDone). d .answer) (sym (received-last-hop (delayAt b i) (chosenHop (chosenOf b)) f at (portAt (b .ports) i) (hop-number frame f read ∙ last)))
+    ∙ ap (λ (d : PortDone). d .answer) (sym (received-last-hop _ _ f (record { 0 = arrival }) _ (hop-number frame f read ∙ last)))
 
 -- ---- what each call leaves of an announcement
 
