@@ -147,21 +147,25 @@ last-hop-refused b port frame arrival f read last clear =
 abbrev Announces : List ℕ → Announcement → Type 0
 Announces last announcement = (announcement ≡ Silent) ⊎ (Bytes last → HeldAbove last announcement)
 
+-- the same of the port at index i in a state
+abbrev AnnouncesAt : List ℕ → Bridge → ℕ → Type 0
+AnnouncesAt last b i = Announces last (portAt (b .ports) i .announcement)
+
 abbrev announcementOf : Port → Announcement
 announcementOf p = p .announcement
 
-module _ (b : Bridge) (i : ℕ) (last : List ℕ) (h : i < length (b .ports)) (u : Announces last (portAt (b .ports) i .announcement)) where
-  links-announces : (mask : ℕ) → Announces last (portAt (linksOf b mask .next .ports) i .announcement)
+module _ (b : Bridge) (i : ℕ) (last : List ℕ) (h : i < length (b .ports)) (u : AnnouncesAt last b i) where
+  links-announces : (mask : ℕ) → AnnouncesAt last (linksOf b mask .next) i
   unfolding linksOf relinkedPort
   links-announces mask =
-      if-when (λ (d : Linked). Announces last (portAt (d .next .ports) i .announcement)) (maskBeyond (b .setup .n) mask) (λ _. u)
+      if-when (λ (d : Linked). AnnouncesAt last (d .next) i) (maskBeyond (b .setup .n) mask) (λ _. u)
       (λ _. subst (λ (p : Port). Announces last (p .announcement)) (sym (each-record (relinkedPort (b .links) mask) (b .ports) i h))
       (if-when (λ (p : Port). Announces last (p .announcement)) (eqb (bit (b .links) i) 1 && eqb (bit mask i) 0) (λ _. inl refl) (λ _. u)))
 
-  age-announces : (at : ℕ) → Announces last (portAt (ageOf b at .next .ports) i .announcement)
+  age-announces : (at : ℕ) → AnnouncesAt last (ageOf b at .next) i
   unfolding ageOf
   age-announces at =
-      if-when (λ (d : Done). Announces last (portAt (d .next .ports) i .announcement)) (leb circle at) (λ _. u)
+      if-when (λ (d : Done). AnnouncesAt last (d .next) i) (leb circle at) (λ _. u)
       (λ _. subst (λ (p : Port). Announces last (p .announcement)) (sym (each-record (λ _. agedPort (record { 0 = at }) (b .setup .timeout)) (b .ports) i h))
       (aged-is (record { 0 = at }) (b .setup .timeout) (portAt (b .ports) i) (λ (p : Port). Announces last (p .announcement)) u (inl refl)))
 
@@ -171,56 +175,56 @@ module _ (b : Bridge) (i : ℕ) (last : List ℕ) (h : i < length (b .ports)) (u
 
   -- a frame that is taken at this port
   here-announces : (port : ℕ) (frame : List ℕ) (arrival : ℕ) → receiveOf b port frame arrival .answer ≡ 0 → port - 1 ≡ i
-      → Announces frame (portAt (receiveOf b port frame arrival .next .ports) i .announcement)
+      → AnnouncesAt frame (receiveOf b port frame arrival .next) i
   here-announces port frame arrival e here =
       inr (λ bytes. subst (λ (j : ℕ). HeldAbove frame (portAt (receiveOf b port frame arrival .next .ports) j .announcement)) here
       (held-above (took b port frame arrival e) (omega (arith, here, h)) bytes))
 
   -- and one that is taken at another
   elsewhere-announces : (port : ℕ) (frame : List ℕ) (arrival : ℕ) → receiveOf b port frame arrival .answer ≡ 0 → (port - 1 ≡ i → ⊥)
-      → Announces last (portAt (receiveOf b port frame arrival .next .ports) i .announcement)
+      → AnnouncesAt last (receiveOf b port frame arrival .next) i
   elsewhere-announces port frame arrival e elsewhere =
       let t = took b port frame arrival e in
       let same : portAt (set (b .ports) (port - 1) (t .stored)) i ≡ portAt (b .ports) i
       = getD-set-other (b .ports) (port - 1) i (t .stored) emptyPort (λ z. elsewhere (sym z)) in
-      subst (λ (x : Bridge). Announces last (portAt (x .ports) i .announcement)) (sym (t .state)) (subst (λ (p : Port). Announces last (p .announcement)) (sym same) u)
+      subst (λ (x : Bridge). AnnouncesAt last x i) (sym (t .state)) (subst (λ (p : Port). Announces last (p .announcement)) (sym same) u)
 
   -- a frame that is refused leaves every announcement
   refused-announces : (port : ℕ) (frame : List ℕ) (arrival : ℕ) → (receiveOf b port frame arrival .answer ≡ 0 → ⊥)
-      → Announces last (portAt (receiveOf b port frame arrival .next .ports) i .announcement)
+      → AnnouncesAt last (receiveOf b port frame arrival .next) i
   refused-announces port frame arrival n =
       ⊎-elim (λ z. absurd (n z))
       (⊎-elim
-      (λ r. subst (λ (x : Bridge). Announces last (portAt (x .ports) i .announcement)) (sym (r .1)) u)
-      (λ r. subst (λ (x : Bridge). Announces last (portAt (x .ports) i .announcement)) (sym (r .1 .2)) (replaced-announces (port - 1) _ refl)))
+      (λ r. subst (λ (x : Bridge). AnnouncesAt last x i) (sym (r .1)) u)
+      (λ r. subst (λ (x : Bridge). AnnouncesAt last x i) (sym (r .1 .2)) (replaced-announces (port - 1) _ refl)))
       (receive-answers b port frame arrival)
 
   receive-announces : (port : ℕ) (frame : List ℕ) (arrival : ℕ)
-      → Announces (takenBy i b (receive port frame arrival) last) (portAt (receiveOf b port frame arrival .next .ports) i .announcement)
+      → AnnouncesAt (takenBy i b (receive port frame arrival) last) (receiveOf b port frame arrival .next) i
   receive-announces port frame arrival =
-      let Left : List ℕ → Type 0 = λ (x : List ℕ). Announces x (portAt (receiveOf b port frame arrival .next .ports) i .announcement) in
+      let Left : List ℕ → Type 0 = λ (x : List ℕ). AnnouncesAt x (receiveOf b port frame arrival .next) i in
       if-when Left _
       (λ q. if-when Left _
       (λ s. here-announces port frame arrival (eqb-true _ _ q) (eqb-true _ _ s))
       (λ s. elsewhere-announces port frame arrival (eqb-true _ _ q) (eqb-false _ _ s)))
       (λ q. refused-announces port frame arrival (eqb-false _ _ q))
 
-  after-announces : (c : Call) → Announces (takenBy i b c last) (portAt (after b c .ports) i .announcement)
+  after-announces : (c : Call) → AnnouncesAt (takenBy i b c last) (after b c) i
   unfolding ownClockOf sendOf
   after-announces (links mask) = links-announces mask
   after-announces (own-clock count seconds fraction at) =
-      if-when (λ (d : Done). Announces last (portAt (d .next .ports) i .announcement)) (eqb (ownClockRefusal (b .setup .capable) seconds fraction at) 0) (λ _. u) (λ _. u)
+      if-when (λ (d : Done). AnnouncesAt last (d .next) i) (eqb (ownClockRefusal (b .setup .capable) seconds fraction at) 0) (λ _. u) (λ _. u)
   after-announces (receive port frame arrival) = receive-announces port frame arrival
   after-announces (age at) = age-announces at
   after-announces (send port t room) =
-      if-when (λ (d : Done). Announces last (portAt (d .next .ports) i .announcement)) (eqb (sendRefusal (b .setup .n) (b .links) port t room) 0)
+      if-when (λ (d : Done). AnnouncesAt last (d .next) i) (eqb (sendRefusal (b .setup .n) (b .links) port t room) 0)
       (λ _. replaced-announces (port - 1) _ refl)
       (λ _. u)
 
 -- ---- from Setup on
 
 -- after any calls, what a port announces is the frame that it took last, held above that frame's hop
-run-announces : (s : Setup) (cs : List Call) (i : ℕ) → i < mostPorts → Announces (lastTaken i (setupOf s .next) cs) (portAt (run (setupOf s .next) cs .ports) i .announcement)
+run-announces : (s : Setup) (cs : List Call) (i : ℕ) → i < mostPorts → AnnouncesAt (lastTaken i (setupOf s .next) cs) (run (setupOf s .next) cs) i
 run-announces s cs i h =
     record-run i (takenBy i) (λ (last : List ℕ) (p : Port). Announces last (p .announcement)) (λ b c last l u. after-announces b i last l u c) s cs [] h (inl refl)
 

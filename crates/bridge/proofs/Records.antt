@@ -45,29 +45,33 @@ each-record f ports i h = each-at f 0 i ports emptyPort h ∙ ap (λ (k : ℕ). 
 
 -- ---- how many records there are
 
+-- a state has as many records as b
+abbrev AsMany : Bridge → Bridge → Type 0
+AsMany b x = length (x .ports) ≡ length (b .ports)
+
 module _ (b : Bridge) where
-  receive-length : (port : ℕ) (frame : List ℕ) (arrival : ℕ) → length (receiveOf b port frame arrival .next .ports) ≡ length (b .ports)
+  receive-length : (port : ℕ) (frame : List ℕ) (arrival : ℕ) → AsMany b (receiveOf b port frame arrival .next)
   unfolding receiveOf receiveFieldsOf
   receive-length port frame arrival =
-      if-when (λ (d : Done). length (d .next .ports) ≡ length (b .ports)) (eqb (portRefusal (b .setup .n) (b .links) port arrival) 0) (λ _. by (readOf frame)) (λ _. refl)
+      if-when (λ (d : Done). AsMany b (d .next)) (eqb (portRefusal (b .setup .n) (b .links) port arrival) 0) (λ _. by (readOf frame)) (λ _. refl)
     where
-      by : (r : Reading) → length (readBy b (port - 1) r (record { 0 = arrival }) .next .ports) ≡ length (b .ports)
+      by : (r : Reading) → AsMany b (readBy b (port - 1) r (record { 0 = arrival }) .next)
       by (Readings.Refused k) = refl
       by (Readings.Frame f) = length-set (b .ports) (port - 1) _
 
   -- every call keeps their number
-  after-length : (c : Call) → length (after b c .ports) ≡ length (b .ports)
+  after-length : (c : Call) → AsMany b (after b c)
   unfolding linksOf ownClockOf ageOf sendOf
   after-length (links mask) =
-      if-when (λ (d : Linked). length (d .next .ports) ≡ length (b .ports)) (maskBeyond (b .setup .n) mask) (λ _. refl) (λ _. each-length (relinkedPort (b .links) mask) 0 (b .ports))
+      if-when (λ (d : Linked). AsMany b (d .next)) (maskBeyond (b .setup .n) mask) (λ _. refl) (λ _. each-length (relinkedPort (b .links) mask) 0 (b .ports))
   after-length (own-clock count seconds fraction at) =
-      if-when (λ (d : Done). length (d .next .ports) ≡ length (b .ports)) (eqb (ownClockRefusal (b .setup .capable) seconds fraction at) 0) (λ _. refl) (λ _. refl)
+      if-when (λ (d : Done). AsMany b (d .next)) (eqb (ownClockRefusal (b .setup .capable) seconds fraction at) 0) (λ _. refl) (λ _. refl)
   after-length (receive port frame arrival) = receive-length port frame arrival
   after-length (age at) =
-      if-when (λ (d : Done). length (d .next .ports) ≡ length (b .ports)) (leb circle at) (λ _. refl)
+      if-when (λ (d : Done). AsMany b (d .next)) (leb circle at) (λ _. refl)
       (λ _. each-length (λ _. agedPort (record { 0 = at }) (b .setup .timeout)) 0 (b .ports))
   after-length (send port t room) =
-      if-when (λ (d : Done). length (d .next .ports) ≡ length (b .ports)) (eqb (sendRefusal (b .setup .n) (b .links) port t room) 0) (λ _. length-set (b .ports) (port - 1) _) (λ _. refl)
+      if-when (λ (d : Done). AsMany b (d .next)) (eqb (sendRefusal (b .setup .n) (b .links) port t room) 0) (λ _. length-set (b .ports) (port - 1) _) (λ _. refl)
 
 -- ---- calls in a row, from Setup on
 
@@ -85,7 +89,7 @@ setup-length : (s : Setup) → length (setupOf s .next .ports) ≡ mostPorts
 unfolding setupOf
 setup-length s = if-when (λ (d : Done). length (d .next .ports) ≡ mostPorts) (setupFits s) (λ _. refl) (λ _. refl)
 
-run-length : (b : Bridge) (cs : List Call) → length (run b cs .ports) ≡ length (b .ports)
+run-length : (b : Bridge) (cs : List Call) → AsMany b (run b cs)
 unfolding run
 run-length b [] = refl
 run-length b (c ∷ cs) = run-length (after b c) cs ∙ after-length b c
