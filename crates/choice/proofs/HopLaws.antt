@@ -1,6 +1,6 @@
--- Laws of the held hop: one for each arm, and that it lies above the frame's hop and is at most the last.
+-- Laws of the held hop: one for each arm, that it lies above the frame's hop and is at most the last, and that a jump is the half without division.
 use mathlib.Core.Path.{_≡_}
-use Prim.Native.Nat.{ℕ, _+_, _<_, _≤_}
+use Prim.Native.Nat.{ℕ, _+_, _-_, _*_, _<_, _≤_}
 use native.Mathlib.Omega.{arith}
 use borrow.Author.Tests.{lt-ltb, le-ltb}
 use lib.Dec.{ltb}
@@ -17,6 +17,11 @@ jump-rises h = omega arith
 pub jump-within : (h : ℕ) → h < lastHop → h + jumpOf h ≤ lastHop
 unfolding jumpOf
 jump-within h l = omega arith
+
+-- twice a jump is no more than what is left, unless it is a single step, and a longer one would be more
+pub jump-half : (h : ℕ) → (1 < jumpOf h → 2 * jumpOf h ≤ lastHop - h) × (lastHop - h < 2 * (jumpOf h + 1))
+unfolding jumpOf
+jump-half h = (λ l. omega arith, omega arith)
 
 -- ---- the held hop
 
