@@ -225,6 +225,7 @@ impl OwnClock {
 
 impl<T: Table> Calls for Bridge<T> {
     /// Starts anew from a plan, without ports if it is refused.
+    #[cfg_attr(feature = "calls", inline(never))]
     fn setup(&mut self, plan: &Plan) -> Answer {
         match Self::planned(plan) {
             Some(bridge) => {
@@ -239,6 +240,7 @@ impl<T: Table> Calls for Bridge<T> {
     }
 
     /// Sets each port's link from its bit, unless a bit has no port.
+    #[cfg_attr(feature = "calls", inline(never))]
     fn links(&mut self, mask: u8) -> Result<u8, Answer> {
         let ports = self.ports.as_mut();
         if usize::from(mask) >= 1 << ports.len() {
@@ -251,6 +253,7 @@ impl<T: Table> Calls for Bridge<T> {
     }
 
     /// Takes a reading that belongs to the call before.
+    #[cfg_attr(feature = "calls", inline(never))]
     fn own_clock(&mut self, count: u8, seconds: u64, fraction: u64, now: u64) -> Answer {
         match grand(seconds, fraction) {
             Some(time) if is_local(now) => {
@@ -265,6 +268,7 @@ impl<T: Table> Calls for Bridge<T> {
     }
 
     /// Hands a frame to its port, with the chosen hop as it stands before.
+    #[cfg_attr(feature = "calls", inline(never))]
     fn receive(&mut self, port: u8, bytes: &[u8], arrival: u64) -> Answer {
         match self.place(port) {
             Some(place) if is_local(arrival) => {
@@ -276,6 +280,7 @@ impl<T: Table> Calls for Bridge<T> {
     }
 
     /// Ages each port.
+    #[cfg_attr(feature = "calls", inline(never))]
     fn age(&mut self, now: u64) -> Answer {
         if !is_local(now) {
             return OUT_OF_RANGE;
@@ -288,11 +293,13 @@ impl<T: Table> Calls for Bridge<T> {
     }
 
     /// Gives port and held hop of the best clock.
+    #[cfg_attr(feature = "calls", inline(never))]
     fn chosen(&mut self) -> Option<(u8, u8)> {
         self.best().map(|chosen| (chosen.port, chosen.hop))
     }
 
     /// Writes the next frame of a port, or refuses and leaves the output alone.
+    #[cfg_attr(feature = "calls", inline(never))]
     fn send(&mut self, port: u8, departure: u64, output: &mut [u8]) -> Answer {
         let place = match self.place(port) {
             Some(place) if is_local(departure) => place,
@@ -326,12 +333,14 @@ impl<T: Table> Calls for Bridge<T> {
     }
 
     /// Gives the drift over a clock's own two samples.
+    #[cfg_attr(feature = "calls", inline(never))]
     fn drift(&mut self, port: u8) -> Result<Option<f64>, Answer> {
         let samples = self.samples(port).ok_or(OUT_OF_RANGE)?;
         Ok(samples.rate().map(rules::parts_per_million))
     }
 
     /// Gives the grand time of a latch on the line through the chosen clock's two samples.
+    #[cfg_attr(feature = "calls", inline(never))]
     fn stamp(&mut self, latch: u64) -> Result<u128, Answer> {
         if !is_local(latch) {
             return Err(OUT_OF_RANGE);

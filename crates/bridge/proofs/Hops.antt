@@ -29,7 +29,8 @@ use Rattle.port.specs.Record.{emptyPort, agedPort}
 use Rattle.port.specs.Receive.{receivedOf}
 use Rattle.port.specs.declared.Port.{Port}
 use Rattle.port.specs.declared.PortDone.{PortDone}
-use Rattle.table.specs.Table.{portAt, mostPorts, relinkedPort, numberOf}
+use Rattle.choice.specs.Choose.{numberOf}
+use Rattle.table.specs.Table.{portAt, mostPorts, relinkedPort}
 use Rattle.table.specs.Arguments.{bit, portRefusal, sendRefusal, ownClockRefusal, maskBeyond}
 use Rattle.table.specs.declared.Setup.{Setup}
 use Rattle.bridge.specs.State.{Lawful, withPort}

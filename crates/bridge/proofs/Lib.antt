@@ -4,6 +4,7 @@ pub mod PromiseLaws
 pub mod Refused
 pub mod Line
 pub mod Least
+pub mod Choosing
 pub mod Records
 pub mod Counts
 pub mod Hops

@@ -1,31 +1,37 @@
--- Laws of the calls: what each definition comes to, case by case.
-use mathlib.Core.Path.{_≡_, refl, sym, ap, _∙_}
-use mathlib.Core.Bool.{Bool, true, false, cond}
+-- Laws of the calls: what each definition comes to, case by case, and how far a loop over the records has come.
+use mathlib.Core.Path.{_≡_, refl, sym, ap, _∙_, subst}
+use mathlib.Core.Bool.{Bool, true, false, cond, true≢false}
 use mathlib.Core.List.{List}
-use Prim.Native.Nat.{ℕ, _+_, _-_, _<_, _≤_}
+use Prim.Native.Nat.{ℕ, _+_, _-_, _^_, _<_, _≤_, zero, suc}
 use native.Mathlib.Omega.{arith}
 use borrow.Author.Tests.{eq-eqb, ne-eqb, lt-ltb, le-ltb}
 use lib.Count.{ones}
 use lib.Dec.{eqb, leb}
-use lib.ListN.{length}
+use lib.ListN.{length, set}
 use Rattle.times.specs.Times.{circle}
+use Rattle.times.specs.declared.LocalTime.{LocalTime}
+use Rattle.samples.specs.Keep.{LawfulSamples}
+use Rattle.samples.specs.declared.Samples.{Samples}
 use Rattle.line.specs.declared.Drift.{Drift}
 use Rattle.line.specs.declared.Drift.the-variants as Drifts
 use Rattle.line.specs.Drift.{driftOf}
-use Rattle.choice.specs.Choose.{ownCandidate}
+use Rattle.choice.specs.Choose.{ownCandidate, numberOf}
+use Rattle.choice.specs.declared.Candidate.{Candidate}
+use Rattle.choice.specs.declared.Candidate.the-variants as Candidates
 use Rattle.frame.specs.Read.{readOf}
 use Rattle.frame.specs.declared.Reading.{Reading}
-use Rattle.port.specs.Record.{agedPort}
+use Rattle.port.specs.Record.{emptyPort, tooOld, agedPort}
 use Rattle.port.specs.Own.{ownReadingOf}
-use Rattle.port.specs.Send.{sendingDone, sendingBytes}
+use Rattle.port.specs.Send.{sendingOf, sendingDone, sendingBytes}
 use Rattle.port.specs.declared.Port.{Port}
+use Rattle.port.specs.declared.OwnClock.{OwnClock}
 use Rattle.port.specs.declared.PortDone.{PortDone}
 use Rattle.port.specs.declared.ClockDone.{ClockDone}
-use Rattle.table.specs.Table.{each, portAt, samplesAt, relinkedPort, numberOf}
+use Rattle.table.specs.Table.{mostPorts, each, portAt, samplesAt, samplesOfChoice, relinkedPort}
 use Rattle.table.specs.Arguments.{portRefusal, sendRefusal, ownClockRefusal, maskBeyond}
 use Rattle.table.specs.Fits.{setupFits}
 use Rattle.table.specs.declared.Setup.{Setup}
-use Rattle.bridge.specs.State.{withPorts, withLinks, answers, linked, storesPort, storesClock, refusedOr}
+use Rattle.bridge.specs.State.{withPorts, withPort, withLinks, answers, linked, storesPort, storesClock, refusedOr, Lawful}
 use Rattle.bridge.specs.Setup.{freshOf, noBridge, setupOf}
 use Rattle.bridge.specs.Links.{linksOf}
 use Rattle.bridge.specs.Own.{ownClockOf}
@@ -38,7 +44,9 @@ use Rattle.bridge.specs.declared.Bridge.{Bridge}
 use Rattle.bridge.specs.declared.Done.{Done}
 use Rattle.bridge.specs.declared.LinkCount.the-variants.{Refused, Up}
 use Rattle.numbers.proofs.Branches.{if-true, if-false}
-use Rattle.table.proofs.TableLaws.{best-number}
+use Rattle.port.proofs.PortLaws.{aged-fresh}
+use Rattle.table.proofs.TableLaws.{best-number, relinked-beyond}
+use Rattle.table.proofs.Walk.{Walked, walked-start, walked-more, walked-same, walked-first}
 
 -- ---- a refusal k found before any record is looked at, whose definition is `want`: where it is none, and where it is one
 
@@ -68,6 +76,31 @@ module _ (s : Setup) where
   unfolding setupOf
   setup-refused e = if-false _ _ _ e
 
+-- ---- a loop that changes the records where they are: of the state only they change, and those below i have
+
+pub record Stored (f : ℕ → Port → Port) (b : Bridge) (i : ℕ) (next : Bridge) : Type 0 where
+  pub rest : next ≡ withPorts b (next .ports)
+  pub walked : Walked f mostPorts (b .ports) i (next .ports)
+
+module _ (f : ℕ → Port → Port) (b : Bridge) where
+  pub stored-start : length (b .ports) ≡ mostPorts → Stored f b 0 b
+  stored-start e = record { rest = refl; walked = walked-start f mostPorts (b .ports) e }
+
+  module _ (i : ℕ) (next : Bridge) (s : Stored f b i next) where
+    pub stored-more : (q : Port) → i < mostPorts → q ≡ f i (portAt (next .ports) i) → Stored f b (i + 1) (withPort next i q)
+    stored-more q h e = record {
+      rest = ap (λ (x : Bridge). withPorts x (set (next .ports) i q)) (s .rest);
+      walked = walked-more f mostPorts (b .ports) i (next .ports) emptyPort q (s .walked) h e;
+    }
+
+    -- a record that is to stay as it is need not be stored
+    pub stored-same : i < mostPorts → portAt (next .ports) i ≡ f i (portAt (next .ports) i) → Stored f b (i + 1) next
+    stored-same h e = record { rest = s .rest; walked = walked-same f mostPorts (b .ports) i (next .ports) emptyPort (s .walked) h e }
+
+    -- all have changed where every record from i on is to stay as it is
+    pub stored-all : ((k : ℕ) → i ≤ k → k < mostPorts → portAt (next .ports) k ≡ f k (portAt (next .ports) k)) → next ≡ withPorts b (each f 0 (b .ports))
+    stored-all g = s .rest ∙ ap (withPorts b) (walked-first f mostPorts (b .ports) i (next .ports) emptyPort (s .walked) g)
+
 -- ---- age
 
 module _ (b : Bridge) (at : ℕ) where
@@ -75,10 +108,21 @@ module _ (b : Bridge) (at : ℕ) where
   unfolding ageOf
   age-refused e = if-true _ _ _ e
 
-  pub age-done : (ports : List Port) → leb circle at ≡ false → ports ≡ each (λ _. agedPort (record { 0 = at }) (b .setup .timeout)) 0 (b .ports)
-      → answers 0 (withPorts b ports) ≡ ageOf b at
+  abbrev pub agesBy : ℕ → Port → Port
+  agesBy _ = agedPort (record { 0 = at }) (b .setup .timeout)
+
+  pub age-done : (i : ℕ) (next : Bridge) → leb circle at ≡ false → Stored agesBy b i next → mostPorts ≤ i → answers 0 next ≡ ageOf b at
   unfolding ageOf
-  age-done ports e p = ap (λ (l : List Port). answers 0 (withPorts b l)) p ∙ if-false _ _ _ e
+  age-done i next e s h = ap (answers 0) (stored-all agesBy b i next s (λ k m l. absurd (omega arith))) ∙ if-false _ _ _ e
+
+  -- where none of the first i announcements was found too old, their records age by staying as they are
+  abbrev pub NoneOld : ℕ → Bool → Type 0
+  NoneOld i found = found ≡ false → Stored agesBy b i b
+
+  pub none-old-more : (i : ℕ) (found next : Bool) → i < mostPorts → NoneOld i found
+      → next ≡ cond found true (tooOld (portAt (b .ports) i .announcement) (record { 0 = at }) (b .setup .timeout)) → NoneOld (i + 1) next
+  none-old-more i true next h w e z = absurd (true≢false (sym e ∙ z))
+  none-old-more i false next h w e z = stored-same agesBy b i b (w refl) h (aged-fresh _ _ _ (sym e ∙ z))
 
 -- ---- links
 
@@ -87,10 +131,17 @@ module _ (b : Bridge) (mask : ℕ) where
   unfolding linksOf
   links-refused e = if-true _ _ _ e
 
-  pub links-done : (ports : List Port) → maskBeyond (b .setup .n) mask ≡ false → ports ≡ each (relinkedPort (b .links) mask) 0 (b .ports)
-      → linked (Up (ones mask)) (withLinks b mask ports) ≡ linksOf b mask
+  abbrev pub relinksBy : ℕ → Port → Port
+  relinksBy = relinkedPort (b .links) mask
+
+  -- the records from n on stay, for their ports have no link to lose
+  pub links-done : (i : ℕ) (next : Bridge) → maskBeyond (b .setup .n) mask ≡ false → Stored relinksBy b i next → b .setup .n ≤ i → b .links < 2 ^ b .setup .n
+      → linked (Up (ones mask)) (withLinks next mask (next .ports)) ≡ linksOf b mask
   unfolding linksOf
-  links-done ports e p = ap (λ (l : List Port). linked (Up (ones mask)) (withLinks b mask l)) p ∙ if-false _ _ _ e
+  links-done i next e s h l =
+      ap (λ (x : Bridge). linked (Up (ones mask)) (withLinks x mask (x .ports)))
+      (stored-all relinksBy b i next s (λ k m _. relinked-beyond (b .links) mask k _ (b .setup .n) l (omega arith)))
+      ∙ if-false _ _ _ e
 
 -- ---- own clock
 
@@ -135,6 +186,17 @@ module _ (b : Bridge) (port t : ℕ) (out : List ℕ) (k : ℕ) (e : k ≡ sendR
   unfolding sendBytes
   send-fills z = goes-on _ k e _ _ z
 
+-- what a port sends by the chosen clock and the samples of its number: where no clock is chosen the samples do not matter
+pub sending-chosen : (b : Bridge) (i : ℕ) (t : LocalTime) (c : Candidate) (s : Samples) → c ≡ chosenOf b → s ≡ samplesAt (numberOf c) (b .clock) (b .ports)
+    → sendingOf c s (b .setup .mac) (b .setup .back) t (portAt (b .ports) i) ≡ sendingAt b i t
+unfolding sendingAt samplesOfChoice sendingOf
+sending-chosen b i t c s e q = go c s q ∙ ap (λ (x : Candidate). sendingOf x (samplesOfChoice x (b .clock) (b .ports)) (b .setup .mac) (b .setup .back) t (portAt (b .ports) i)) e
+  where
+    go : (c : Candidate) (s : Samples) → s ≡ samplesAt (numberOf c) (b .clock) (b .ports)
+        → sendingOf c s (b .setup .mac) (b .setup .back) t (portAt (b .ports) i) ≡ sendingOf c (samplesOfChoice c (b .clock) (b .ports)) (b .setup .mac) (b .setup .back) t (portAt (b .ports) i)
+    go Candidates.Nothing s q = refl
+    go (Candidates.Clock p h n) s q = ap (λ (x : Samples). sendingOf (Candidates.Clock p h n) x (b .setup .mac) (b .setup .back) t (portAt (b .ports) i)) q
+
 -- ---- drift
 
 module _ (b : Bridge) (port : ℕ) where
@@ -145,6 +207,32 @@ module _ (b : Bridge) (port : ℕ) where
   pub drift-done : (d : Drift) → port ≤ b .setup .n → d ≡ driftOf (samplesAt port (b .clock) (b .ports)) → d ≡ driftAt b port
   unfolding driftAt
   drift-done d h e = e ∙ if-false _ _ _ (le-ltb _ _ h)
+
+-- ---- a clock by its number, 0 for the own clock, k + 1 for the record at index k
+
+-- x is none of the numbers below n
+abbrev pub NoneBelow : ℕ → ℕ → Type 0
+NoneBelow x zero = Unit {0}
+NoneBelow x (suc n) = NoneBelow x n × (x ≡ n → ⊥)
+
+-- so it is no less than n
+none-below : (x n : ℕ) → NoneBelow x n → n ≤ x
+none-below x zero r = omega arith
+none-below x (suc n) r = omega (arith, none-below x n (r .0), r .1)
+
+-- a number that is no more than 8 and none below it is that of the last port
+pub last-port : {number : ℕ} → number ≤ mostPorts → NoneBelow number mostPorts → number ≡ mostPorts
+last-port {number} h r = omega (arith, none-below number mostPorts r)
+
+-- the samples in a record are lawful
+pub record-lawful : (b : Bridge) (k : ℕ) {samples : Samples} → samples ≡ portAt (b .ports) k .samples → Lawful b → LawfulSamples samples
+record-lawful b k e l = subst LawfulSamples (sym e) (l .ports-lawful k .samples)
+
+-- and those of the clock with its number
+pub record-samples : (clock : OwnClock) (ports : List Port) (k : ℕ) {number : ℕ} {samples : Samples} → samples ≡ portAt ports k .samples → number ≡ suc k
+    → samples ≡ samplesAt number clock ports
+unfolding samplesAt
+record-samples clock ports k e n = e ∙ ap (λ (i : ℕ). samplesAt i clock ports) (sym n)
 
 -- the number of the chosen clock is that of a port, or 0
 pub chosen-number : (b : Bridge) → length (b .ports) ≡ 8 → numberOf (chosenOf b) ≤ 8

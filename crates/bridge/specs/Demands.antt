@@ -21,7 +21,7 @@ use Rattle.line.specs.Line.{NearLine}
 use Rattle.line.specs.Drift.{million, driftNo}
 use Rattle.line.specs.declared.Drift.{Drift}
 use Rattle.choice.specs.Hop.{lastHop}
-use Rattle.choice.specs.Choose.{rankOf, ownCandidate}
+use Rattle.choice.specs.Choose.{rankOf, ownCandidate, numberOf}
 use Rattle.choice.specs.declared.Announcement.{Announcement}
 use Rattle.choice.specs.declared.Announcement.the-variants.{Announced}
 use Rattle.choice.specs.declared.Candidate.{Candidate}
@@ -33,7 +33,7 @@ use Rattle.frame.specs.declared.Reading.the-variants.{Frame}
 use Rattle.port.specs.Record.{usedPort}
 use Rattle.port.specs.Receive.{notedPort}
 use Rattle.port.specs.declared.Preceding.the-variants.{Was}
-use Rattle.table.specs.Table.{portAt, samplesAt, candidatesFrom, numberOf}
+use Rattle.table.specs.Table.{portAt, samplesAt, candidatesFrom}
 use Rattle.table.specs.Arguments.{bit, sendRefusal, maskBeyond}
 use Rattle.bridge.specs.State.{withPort, withClock}
 use Rattle.bridge.specs.Setup.{noBridge}

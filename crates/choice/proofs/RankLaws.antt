@@ -1,24 +1,154 @@
--- Laws of a candidate's rank: the key decides, and on a tie the port.
-use mathlib.Core.Path.{_≡_}
-use mathlib.Core.Bool.{true, false}
-use Prim.Native.Nat.{ℕ, _<_}
-use native.Mathlib.Nat.{le-antisymm}
-use borrow.Author.Tests.{ltb-true, ltb-false}
+-- Laws of ranks in two numbers: the lesser of two is the rank of the better candidate, and a rank names its candidate.
+use mathlib.Core.Path.{_≡_, refl, sym, ap, _∙_, subst}
+use mathlib.Core.Bool.{Bool, true, false, cond}
+use Prim.Native.Nat.{ℕ, _+_, _*_, _/_, _%_, _^_, _<_, _≤_}
+use native.Mathlib.Omega.{arith}
+use native.Mathlib.Nat.{mul-le-mul-right, le-of-lt}
+use lib.Arith.{digits-div, digits-mod}
 use lib.Dec.{ltb}
-use Rattle.choice.specs.Precedence.{keyOf}
-use Rattle.choice.specs.Choose.{rankOf}
+use borrow.Author.Tests.{lt-ltb, le-ltb, ltb-true, ltb-false, ne-eqb}
+use Rattle.choice.specs.Precedence.{highOf, precedenceOf, keyOf}
+use Rattle.choice.specs.Choose.{rankOf, betterOf}
+use Rattle.choice.specs.Rank.{lowerEnd, lastNumber, inNumbers, PrecedenceFits, CandidateFits, Ranks, worthOf, lesserOf, precedenceAt, candidateAt}
 use Rattle.choice.specs.declared.Precedence.{Precedence}
-use Rattle.numbers.proofs.Pairs.{first-less, first-more, first-same}
+use Rattle.choice.specs.declared.Candidate.{Candidate}
+use Rattle.choice.specs.declared.Candidate.the-variants.{Nothing, Clock}
+use Rattle.choice.specs.declared.Rank.{Rank}
+use Rattle.numbers.proofs.Branches.{if-true, if-false, if-when}
 
-module _ (p q : Precedence) (h k i j : ℕ) where
-  pub rank-less : i < 256 → ltb (keyOf p h) (keyOf q k) ≡ true → true ≡ ltb (rankOf p h i) (rankOf q k j)
-  unfolding rankOf
-  rank-less l e = first-less 256 (keyOf p h) (keyOf q k) i j (ltb-true _ _ e) l
+-- ---- the two numbers of a clock's rank
 
-  pub rank-more : j < 256 → ltb (keyOf q k) (keyOf p h) ≡ true → false ≡ ltb (rankOf p h i) (rankOf q k j)
-  unfolding rankOf
-  rank-more l e = first-more 256 (keyOf p h) (keyOf q k) i j (ltb-true _ _ e) l
+-- the 40 bits above the clock's identity, and the upper 24 bits of that
+abbrev upperOf : Precedence → ℕ
+upperOf p = highOf p * 2 ^ 24 + p .clock / 2 ^ 40
 
-  pub rank-tie : ltb (keyOf p h) (keyOf q k) ≡ false → ltb (keyOf q k) (keyOf p h) ≡ false → ltb i j ≡ ltb (rankOf p h i) (rankOf q k j)
-  unfolding rankOf
-  rank-tie e g = first-same 256 (keyOf p h) (keyOf q k) i j (le-antisymm (ltb-false _ _ g) (ltb-false _ _ e))
+-- the lower 40 bits of the clock's identity, then hop, then number
+abbrev lowerOf : Precedence → ℕ → ℕ → ℕ
+lowerOf p h n = p .clock % 2 ^ 40 * 2 ^ 16 + h * 2 ^ 8 + n
+
+abbrev numbersOf : Precedence → ℕ → ℕ → Rank
+numbersOf p h n = record { 0 = upperOf p; 1 = lowerOf p h n }
+
+-- 24 bits below those 40 make no more than 64
+pub upper-fits : (p : Precedence) (x : ℕ) → PrecedenceFits p → x < 2 ^ 24 → highOf p * 2 ^ 24 + x < 2 ^ 64
+upper-fits p x f l = omega arith
+
+-- together they are the rank
+rank-parts : (p : Precedence) (h n : ℕ) → rankOf p h n ≡ upperOf p * lowerEnd + lowerOf p h n
+unfolding rankOf keyOf precedenceOf
+rank-parts p h n = omega arith
+
+module _ (p : Precedence) (h n : ℕ) (k : h < 2 ^ 8) (l : n < 2 ^ 8) where
+  lower-fits : lowerOf p h n < lowerEnd
+  lower-fits = omega arith
+
+  pub clock-numbers : numbersOf p h n ≡ inNumbers (Clock p h n)
+  unfolding inNumbers
+  clock-numbers = rw (rank-parts p h n) (λ i. record { 0 = sym (digits-div (upperOf p) lower-fits) i; 1 = sym (digits-mod (upperOf p) lower-fits) i })
+
+-- ---- the rank of a candidate
+
+-- of none
+pub nothing-rank : Ranks (record { 0 = lastNumber; 1 = lastNumber }) Nothing
+unfolding inNumbers
+nothing-rank = record { is = refl; fits = tt }
+
+-- of one that is given in two ways
+pub same-rank : {r : Rank} {c d : Candidate} → c ≡ d → Ranks r c → Ranks r d
+same-rank {r} e x = subst (Ranks r) e x
+
+-- ---- the order of ranks
+
+-- a number above and below 56 bits, the parts set 64 bits apart
+abbrev apart : ℕ → ℕ
+apart x = x / lowerEnd * 2 ^ 64 + x % lowerEnd
+
+-- that leaves the order of numbers as it is
+same-order : (x y : ℕ) → ltb (apart x) (apart y) ≡ ltb x y
+same-order x y = by (ltb x y) refl where
+  by : (t : Bool) → ltb x y ≡ t → ltb (apart x) (apart y) ≡ ltb x y
+  by true e = lt-ltb (apart x) (apart y) (omega (arith, ltb-true x y e)) ∙ sym e
+  by false e = le-ltb (apart x) (apart y) (omega (arith, ltb-false x y e)) ∙ sym e
+
+-- of two numbers in two parts, that with the greater parts is greater
+both-less : (m q s r t : ℕ) → q ≤ s → r < t → q * m + r < s * m + t
+both-less m q s r t k l = omega (arith, mul-le-mul-right m k)
+
+-- every clock's rank is less than what stands for no candidate
+clock-below : (p : Precedence) (h n : ℕ) → CandidateFits (Clock p h n) → worthOf (inNumbers (Clock p h n)) < worthOf (inNumbers Nothing)
+unfolding inNumbers
+clock-below p h n (f, k, l) =
+    both-less (2 ^ 64) (rankOf p h n / lowerEnd) lastNumber (rankOf p h n % lowerEnd) lastNumber
+    (rw (sym (ap (λ (r : Rank). r .0) (clock-numbers p h n k l))) (omega (arith, upper-fits p (p .clock / 2 ^ 40) f (omega arith))))
+    (omega arith)
+
+-- what is made of a choice is the choice of what is made of each
+made-of : {A B : Type 0} (f : A → B) (t : Bool) (x y : A) → cond t (f x) (f y) ≡ f (cond t x y)
+made-of f true x y = refl
+made-of f false x y = refl
+
+-- the lesser of two candidates' ranks is that of the better
+lesser-numbers : (c d : Candidate) → CandidateFits c → CandidateFits d → lesserOf (inNumbers c) (inNumbers d) ≡ inNumbers (betterOf c d)
+unfolding lesserOf betterOf inNumbers
+lesser-numbers Nothing Nothing f g = refl
+lesser-numbers Nothing (Clock q k j) f g = sym (if-true _ _ _ (lt-ltb _ _ (clock-below q k j g)))
+lesser-numbers (Clock p h i) Nothing f g = sym (if-false _ _ _ (le-ltb _ _ (le-of-lt (clock-below p h i f))))
+lesser-numbers (Clock p h i) (Clock q k j) f g = rw (same-order (rankOf q k j) (rankOf p h i)) (made-of inNumbers (ltb (rankOf q k j) (rankOf p h i)) (Clock q k j) (Clock p h i))
+
+-- the parts of the better have their bits
+better-fits : (c d : Candidate) → CandidateFits c → CandidateFits d → CandidateFits (betterOf c d)
+unfolding betterOf
+better-fits Nothing d f g = g
+better-fits (Clock p h i) Nothing f g = f
+better-fits (Clock p h i) (Clock q k j) f g = if-when CandidateFits (ltb (rankOf q k j) (rankOf p h i)) (λ _. g) (λ _. f)
+
+-- against no candidate, any stays
+pub better-nothing : (c : Candidate) → betterOf c Nothing ≡ c
+unfolding betterOf
+better-nothing Nothing = refl
+better-nothing (Clock p h n) = refl
+
+-- both, of any two ranks
+pub better-rank : {a b : Rank} {c d : Candidate} → Ranks a c → Ranks b d → Ranks (lesserOf a b) (betterOf c d)
+better-rank {a} {b} {c} {d} x y = record {
+  is = rw (x .is, y .is) (lesser-numbers c d (x .fits) (y .fits));
+  fits = better-fits c d (x .fits) (y .fits);
+}
+
+-- ---- the candidate in a rank
+
+-- each part of a clock is found again in its place
+module _ (p : Precedence) (h n : ℕ) (f : PrecedenceFits p) (k : h < 2 ^ 8) (l : n < 2 ^ 8) where
+  precedence-named : precedenceAt (numbersOf p h n) ≡ p
+  unfolding precedenceAt
+  precedence-named =
+      let priority1 : upperOf p / 2 ^ 56 ≡ p .priority1 = omega arith in
+      let source : upperOf p / 2 ^ 48 % 2 ^ 8 ≡ p .source = omega arith in
+      let variance : upperOf p / 2 ^ 32 % 2 ^ 16 ≡ p .variance = omega arith in
+      let priority2 : upperOf p / 2 ^ 24 % 2 ^ 8 ≡ p .priority2 = omega arith in
+      let clock : upperOf p % 2 ^ 24 * 2 ^ 40 + lowerOf p h n / 2 ^ 16 ≡ p .clock = omega arith in
+      λ i. record { priority1 = priority1 i; source = source i; variance = variance i; priority2 = priority2 i; clock = clock i }
+
+  clock-named : candidateAt (numbersOf p h n) ≡ Clock p h n
+  unfolding candidateAt
+  clock-named =
+      let hop : lowerOf p h n / 2 ^ 8 % 2 ^ 8 ≡ h = omega arith in
+      let number : lowerOf p h n % 2 ^ 8 ≡ n = omega arith in
+      sym (if-false _ _ _ (ne-eqb (lowerOf p h n) lastNumber (λ e. omega arith))) ∙ (λ i. Clock (precedence-named i) (hop i) (number i))
+
+candidate-named : (c : Candidate) → CandidateFits c → candidateAt (inNumbers c) ≡ c
+unfolding candidateAt inNumbers
+candidate-named Nothing f = refl
+candidate-named (Clock p h n) (f, k, l) = ap candidateAt (sym (clock-numbers p h n k l)) ∙ clock-named p h n f k l
+
+-- a rank names the candidate whose rank it is
+pub rank-candidate : {r : Rank} {c : Candidate} → Ranks r c → candidateAt r ≡ c
+rank-candidate {r} {c} x = ap candidateAt (x .is) ∙ candidate-named c (x .fits)
+
+-- the lower number of a rank that names a clock has its bits
+pub lower-within : {r : Rank} {c : Candidate} → Ranks r c → (r .1 ≡ lastNumber → ⊥) → r .1 < lowerEnd
+unfolding inNumbers
+lower-within {r} {c} x other = by c (x .is) where
+  by : (c : Candidate) → r ≡ inNumbers c → r .1 < lowerEnd
+  by Nothing e = absurd (other (ap (λ (r : Rank). r .1) e))
+  by (Clock p h n) e = rw e (omega arith)

@@ -34,6 +34,11 @@ unfoldable pub chosenHop : Candidate → ℕ
 chosenHop Nothing = lastHop
 chosenHop (Clock precedence hop port) = hop
 
+-- the number of a choice, 0 where there is none
+abbrev pub numberOf : Candidate → ℕ
+numberOf Nothing = 0
+numberOf (Clock precedence hop number) = number
+
 -- a choice as it is shown, by its port and its held hop: 255 and 255 where there is none
 abbrev pub noneShown : ℕ
 noneShown = 255

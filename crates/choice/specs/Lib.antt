@@ -1,3 +1,4 @@
 pub mod Precedence
 pub mod Hop
 pub mod Choose
+pub mod Rank

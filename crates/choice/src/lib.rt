@@ -2,6 +2,7 @@
 pub mod candidates;
 pub mod hop;
 pub mod order;
+pub mod ranks;
 
 use times::LocalTime;
 
@@ -25,3 +26,6 @@ pub enum Candidate {
     Nothing,
     Clock(Precedence, u8, u8),
 }
+
+// A candidate's rank as two numbers, of which the first weighs more; both are the last there is where there is no candidate.
+pub struct Rank(pub u64, pub u64);

@@ -1,6 +1,6 @@
 -- What a line is answered with.
 use Prim.Native.Nat.{ℕ}
-use mathlib.Core.Bool.{Bool, false, not, cond}
+use mathlib.Core.Bool.{Bool, true, false, not, cond}
 use mathlib.Core.List.{List, [], _∷_}
 use lib.ListN.{length, take, drop, getD}
 use lib.Dec.{T, leb, eqb}
@@ -38,7 +38,7 @@ use Rattle.recorder.specs.declared.Stamped.{Stamped}
 use Rattle.recorder.specs.declared.Stamped.the-variants.{At, Refused as unstamped}
 use Rattle.columns.specs.Columns.{columnsText, bytesLine, line1, line2, lineWith}
 use Rattle.hex.specs.Character.{space, newline}
-use Rattle.fields.specs.Form.{formOf}
+use Rattle.fields.specs.Form.{noForm, formOf}
 use Rattle.fields.specs.declared.Form.{Form}
 use Rattle.answer.specs.Answer.{Answer, says, badText, refusedLine, doneSays}
 use Rattle.command.specs.Row.{letterS, letterL, letterO, letterR, letterA, letterC, letterT, letterD, letterF, letterW, letterB, letterE, rowOf}
@@ -137,6 +137,17 @@ callOf letter b f =
     (cond (eqb letter letterT) (sendSays b (byteIn f 0) (numberIn f 1) (untouched (sizeIn f 2)))
     (says b (askedText letter b f)))))))
 
+-- no call of this letter changes the state
+unfoldable pub asksBy : ℕ → Bool
+asksBy letter =
+    cond (eqb letter letterS) false
+    (cond (eqb letter letterL) false
+    (cond (eqb letter letterO) false
+    (cond (eqb letter letterR) false
+    (cond (eqb letter letterA) false
+    (cond (eqb letter letterT) false
+    true)))))
+
 -- ---- a line
 
 -- the longest line that can be one, B with two frames of 128 bytes: the letter, and twice a space and 256 digits.
@@ -154,6 +165,14 @@ letterOf s = getD s 0 0
 
 abbrev pub formIn : List ℕ → Form
 formIn s = formOf (rowOf (letterOf s)) (drop 1 s)
+
+-- that of a text that may be none
+unfoldable pub formFor : List ℕ → Form
+formFor s = cond (mayBeLine s) (formIn s) noForm
+
+-- no text, or a letter that changes nothing
+unfoldable pub asks : List ℕ → Bool
+asks s = cond (eqb (length s) 0) true (asksBy (letterOf s))
 
 unfoldable pub answerOf : Bridge → List ℕ → Answer
 answerOf b s = cond (mayBeLine s) (cond (formIn s .good) (callOf (letterOf s) b (formIn s)) (refusedLine b)) (refusedLine b)

@@ -44,6 +44,10 @@ stored i field content h = record {
 abbrev pub formWith : Bool → Taken → Form
 formWith good h = record { good = good; numbers = h .numbers; marked = h .marked; bytes = h .bytes }
 
+-- what a text that is no line has
+abbrev pub noForm : Form
+noForm = formWith false nothingTaken
+
 -- the text from field i on, by the kinds from there on: a space and a field for each kind, and nothing more; it stops at the first that is not so
 unfoldable pub walk : List ℕ → List ℕ → ℕ → Taken → Form
 walk [] text i h = formWith (eqb (length text) 0) h

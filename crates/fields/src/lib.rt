@@ -1,6 +1,6 @@
 // A line's fields, read by a row of their kinds.
 ghost use mathlib.Core.Path.{_≡_};
-ghost use Rattle.fields.specs.Form.{formOf};
+ghost use Rattle.fields.specs.Form.{noForm, formOf};
 use hex::digits;
 use hex::search;
 
@@ -58,5 +58,17 @@ pub fn read(row: [u8; 15], rest: &[u8]) -> Form
         numbers: numbers,
         marked: marked,
         bytes: bytes,
+    }
+}
+
+// The form of a text that is no line.
+pub fn none() -> Form
+    ensures { λ r. ⌜ r ≡ noForm ⌝ }
+{
+    Form {
+        good: false,
+        numbers: [0u64; 14],
+        marked: [false; 14],
+        bytes: [0u8; 256],
     }
 }

@@ -1,11 +1,11 @@
 // The lines of the stamps program: a latch among the lines of a capture; printed for a latch is its stamp.
+ghost use mathlib.Core.Path.{_≡_};
+ghost use mathlib.Core.Bool.{true};
 ghost use Prim.Native.Nat.{_≤_};
 ghost use lib.ListN.{length};
 ghost use Rattle.bridge.specs.State.{Lawful};
 ghost use Rattle.columns.specs.Columns.{longestAnswer, Prints};
-ghost use Rattle.answer.specs.Answer.{Says};
-ghost use Rattle.latch.specs.Latch.{latchText, latchedOf};
-use answer::Answered;
+ghost use Rattle.latch.specs.Latch.{isLatch, latchText, latchedOf};
 use bridge::Bridge;
 use columns::CHARACTER;
 use columns::NEWLINE;
@@ -35,17 +35,19 @@ fn stamped(stamp: Stamped, out: &mut [u8]) -> usize
     }
 }
 
-// The state after a line, and what is printed for it in out.
-pub fn answer_line(b: Bridge, text: &[u8], out: &mut [u8]) -> Answered
-    requires { ⌜ Lawful b ⌝ }
-    requires { ⌜ longestAnswer ≤ length (now out) ⌝ }
-    ensures { λ r. ⌜ Says (latchedOf b (now (text .entry))) r (now (out .entry)) (now (out .exit)) ⌝ }
+// Whether a line leaves the state as it is: whether it is a latch.
+pub fn asks(text: &[u8]) -> bool
+    ensures { λ r. ⌜ r ≡ isLatch (now (text .entry)) ⌝ }
 {
-    if !digits::exactly(text, LATCH_DIGITS) {
-        return capture::answer_line(b, text, out);
-    }
-    Answered {
-        next: b,
-        len: stamped(recorder::stamp(b, digits::number(text)), out),
-    }
+    digits::exactly(text, LATCH_DIGITS)
+}
+
+// What is printed in out for a latch.
+pub fn asked_line(b: Bridge, text: &[u8], out: &mut [u8]) -> usize
+    requires { ⌜ Lawful b ⌝ }
+    requires { ⌜ isLatch (now text) ≡ true ⌝ }
+    requires { ⌜ longestAnswer ≤ length (now out) ⌝ }
+    ensures { λ r. ⌜ Prints (latchedOf b (now (text .entry)) .text) r (now (out .entry)) (now (out .exit)) ⌝ }
+{
+    stamped(recorder::stamp(b, digits::number(text)), out)
 }

@@ -1,6 +1,4 @@
 // The listing program: lines of a port, an arrival and a frame; prints what the bridge answers and which clock is chosen then.
-use session::Program;
-
 fn main() {
-    stdio::run(Program::Listing);
+    stdio::run(session::LISTING);
 }

@@ -1,15 +1,15 @@
 -- Laws of the records: one for each case of a definition, and that every step keeps a record lawful.
 use mathlib.Core.Path.{_≡_, refl, sym, ap, _∙_, subst}
-use mathlib.Core.Bool.{true}
+use mathlib.Core.Bool.{Bool, true, false, cond}
 use mathlib.Core.List.{List}
 use Prim.Native.Nat.{ℕ, _<_, _≤_}
 use native.Mathlib.Omega.{arith}
-use borrow.Author.Tests.{lt-ltb, le-ltb, eq-eqb, ne-eqb}
-use lib.Dec.{ltb, eqb}
+use borrow.Author.Tests.{eq-eqb, ne-eqb}
+use lib.Dec.{eqb}
 use lib.ListN.{length}
 use Rattle.numbers.specs.Digits.{Bytes}
 use Rattle.numbers.specs.Table.{Held}
-use Rattle.times.specs.Times.{circle, sinceOf, InRange, nextCount}
+use Rattle.times.specs.Times.{circle, InRange, nextCount}
 use Rattle.choice.specs.Hop.{lastHop, hopOf}
 use Rattle.times.specs.declared.LocalTime.{LocalTime}
 use Rattle.times.specs.declared.GrandTime.{GrandTime}
@@ -29,15 +29,13 @@ use Rattle.delay.specs.declared.Delay.the-variants.{Is, TooLong}
 use Rattle.choice.specs.declared.Precedence.{Precedence}
 use Rattle.choice.specs.declared.Candidate.{Candidate}
 use Rattle.choice.specs.declared.Candidate.the-variants.{Nothing, Clock}
-use Rattle.choice.specs.declared.Announcement.{Announcement}
-use Rattle.choice.specs.declared.Announcement.the-variants.{Silent, Announced}
 use Rattle.frame.specs.Frame.{frameLength, widths}
 use Rattle.frame.specs.Read.{rowsOf, readOf}
 use Rattle.frame.specs.Write.{writeRefusal}
 use Rattle.frame.specs.declared.Reading.the-variants as Frames
 use Rattle.frame.specs.declared.Fields.{Fields}
 use Rattle.frame.specs.declared.Mac.{Mac}
-use Rattle.port.specs.Record.{silenced, agedBy, agedPort, emptyPort, usedPort}
+use Rattle.port.specs.Record.{silenced, tooOld, agedPort, emptyPort, usedPort}
 use Rattle.port.specs.Lawful.{LawfulPreceding, LawfulPair, LawfulPort, LawfulClock, FieldsInRange}
 use Rattle.port.specs.Own.{storedAs, ownSample, ownReadingBy, ownReadingOf}
 use Rattle.port.specs.Receive.{sampleOf, sameClock, takenPort, refusedBy, delayedBy, followedBy, countedBy, receivedOf}
@@ -59,27 +57,18 @@ use Rattle.frame.proofs.FrameLaws.{accepted, reading, unrefused}
 -- ---- record
 
 module _ (at : LocalTime) (timeout : ℕ) (port : Port) where
-  by-announcement : {h : Announcement} → port .announcement ≡ h → agedBy h at timeout port ≡ agedPort at timeout port
+  pub aged-old : tooOld (port .announcement) at timeout ≡ true → silenced port ≡ agedPort at timeout port
   unfolding agedPort
-  by-announcement e = ap (λ (h : Announcement). agedBy h at timeout port) (sym e)
+  aged-old e = if-true _ (silenced port) port e
 
-  pub aged-silent : port .announcement ≡ Silent → port ≡ agedPort at timeout port
-  aged-silent e = by-announcement e
-
-  pub aged-fresh : {p : Precedence} {h : ℕ} {when : LocalTime} → port .announcement ≡ Announced p h when → sinceOf at when < timeout → port ≡ agedPort at timeout port
-  aged-fresh e l = if-true _ port (silenced port) (lt-ltb _ _ l) ∙ by-announcement e
-
-  pub aged-old : {p : Precedence} {h : ℕ} {when : LocalTime} → port .announcement ≡ Announced p h when → timeout ≤ sinceOf at when → silenced port ≡ agedPort at timeout port
-  aged-old e l = if-false _ port (silenced port) (le-ltb _ _ l) ∙ by-announcement e
+  pub aged-fresh : tooOld (port .announcement) at timeout ≡ false → port ≡ agedPort at timeout port
+  unfolding agedPort
+  aged-fresh e = if-false _ (silenced port) port e
 
   -- what holds of the record, and of it without announcement, samples and echo, holds of the aged one
   pub aged-is : (P : Port → Type 0) → P port → P (silenced port) → P (agedPort at timeout port)
   unfolding agedPort
-  aged-is P stays goes = go (port .announcement)
-    where
-      go : (h : Announcement) → P (agedBy h at timeout port)
-      go Silent = stays
-      go (Announced p h when) = if-when P (ltb (sinceOf at when) timeout) (λ _. stays) (λ _. goes)
+  aged-is P stays goes = if-when P (tooOld (port .announcement) at timeout) (λ _. goes) (λ _. stays)
 
 -- ---- receiving
 

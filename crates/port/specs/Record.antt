@@ -1,7 +1,7 @@
 -- The records: empty, aged, and with a frameCount used up.
 use Prim.Native.Nat.{ℕ}
-use mathlib.Core.Bool.{cond}
-use lib.Dec.{ltb}
+use mathlib.Core.Bool.{Bool, false, cond}
+use lib.Dec.{leb}
 use Rattle.times.specs.Times.{sinceOf, nextCount}
 use Rattle.times.specs.declared.LocalTime.{LocalTime}
 use Rattle.samples.specs.declared.Samples.the-variants.{Empty}
@@ -23,13 +23,14 @@ emptyClock = record { preceding = Never; samples = Empty }
 abbrev pub silenced : Port → Port
 silenced port = record { preceding = port .preceding; announcement = Silent; samples = Empty; pair = port .pair; echo = Unset; count = port .count }
 
--- Age on one port: an announcement heard a timeout ago or longer goes, with samples and echo
-abbrev pub agedBy : Announcement → LocalTime → ℕ → Port → Port
-agedBy Silent at timeout port = port
-agedBy (Announced precedence hop heardAt) at timeout port = cond (ltb (sinceOf at heardAt) timeout) port (silenced port)
+-- an announcement heard a timeout ago or longer is too old
+abbrev pub tooOld : Announcement → LocalTime → ℕ → Bool
+tooOld Silent at timeout = false
+tooOld (Announced precedence hop heardAt) at timeout = leb timeout (sinceOf at heardAt)
 
+-- Age on one port: with an announcement that is too old go samples and echo
 unfoldable pub agedPort : LocalTime → ℕ → Port → Port
-agedPort at timeout port = agedBy (port .announcement) at timeout port
+agedPort at timeout port = cond (tooOld (port .announcement) at timeout) (silenced port) port
 
 -- with another next frameCount
 abbrev pub withCount : Port → ℕ → Port

@@ -1,6 +1,7 @@
 // Records that are empty, and that lose what is too old.
 ghost use mathlib.Core.Path.{_≡_};
-ghost use Rattle.port.specs.Record.{emptyPort, emptyClock, agedPort};
+ghost use mathlib.Core.Bool.{true, cond};
+ghost use Rattle.port.specs.Record.{emptyPort, emptyClock, tooOld, agedPort};
 use crate::OwnClock;
 use crate::Port;
 use crate::Preceding;
@@ -34,27 +35,44 @@ pub fn empty_clock() -> OwnClock
     }
 }
 
+// Whether an announcement is as old as the timeout.
+fn too_old(announcement: Announcement, at: LocalTime, timeout: u64) -> bool
+    ensures { λ r. ⌜ r ≡ tooOld announcement at timeout ⌝ }
+{
+    match announcement {
+        Announcement::Silent => false,
+        Announcement::Announced(_, _, heard_at) => timeout <= local::since(at, heard_at),
+    }
+}
+
+// Whether an announcement as old as the timeout was found before, or is in this record.
+pub fn finds_old(found: bool, port: Port, at: LocalTime, timeout: u64) -> bool
+    ensures { λ r. ⌜ r ≡ cond found true (tooOld (port .announcement) at timeout) ⌝ }
+{
+    let announcement = port.announcement;
+    if found {
+        true
+    } else {
+        too_old(announcement, at, timeout)
+    }
+}
+
 // The record without announcement, samples and echo, where the announcement is as old as the timeout.
 pub fn aged(port: Port, at: LocalTime, timeout: u64) -> Port
     ensures { λ r. ⌜ r ≡ agedPort at timeout port ⌝ }
 {
     let announcement = port.announcement;
-    match announcement {
-        Announcement::Silent => port,
-        Announcement::Announced(_, _, heard_at) => {
-            if local::since(at, heard_at) < timeout {
-                return port;
-            }
-            let preceding = port.preceding;
-            let pair = port.pair;
-            Port {
-                preceding: preceding,
-                announcement: Announcement::Silent,
-                samples: Samples::Empty,
-                pair: pair,
-                echo: Pair::Unset,
-                count: port.count,
-            }
-        }
+    if too_old(announcement, at, timeout) {
+        let preceding = port.preceding;
+        let pair = port.pair;
+        return Port {
+            preceding: preceding,
+            announcement: Announcement::Silent,
+            samples: Samples::Empty,
+            pair: pair,
+            echo: Pair::Unset,
+            count: port.count,
+        };
     }
+    port
 }

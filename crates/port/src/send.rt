@@ -111,19 +111,19 @@ pub fn send(
     ensures { λ r. ⌜ r ≡ sendingDone (sendingOf choice samples mac back t port) port ⌝ }
     ensures { λ _. ⌜ now (out .exit) ≡ sendingBytes (sendingOf choice samples mac back t port) (now (out .entry)) ⌝ }
 {
-    let mut after = port;
-    after.count = local::next_count(port.count);
+    let mut answer = refusals::DONE;
     match composed(choice, samples, mac, back, t, port) {
-        Sending::Refused(refusal) => PortDone {
-            answer: refusal,
-            port: after,
-        },
+        Sending::Refused(refusal) => {
+            answer = refusal;
+        }
         Sending::Frame(f) => {
             write::put(f, out);
-            PortDone {
-                answer: refusals::DONE,
-                port: after,
-            }
         }
+    }
+    let mut after = port;
+    after.count = local::next_count(port.count);
+    PortDone {
+        answer: answer,
+        port: after,
     }
 }

@@ -66,7 +66,7 @@ fn through(samples: Samples, latch: LocalTime) -> Stamped
     }
 }
 
-// Stamp: the grand time of a latched local time, by the chosen clock. The state stays as it is.
+// Stamp: the grand time of a latched local time, by the chosen clock. The state stays as it is, and samples read at a constant place are not copied.
 pub fn stamp(b: Bridge, latch: u64) -> Stamped
     requires { ⌜ Lawful b ⌝ }
     ensures { λ r. ⌜ StampPromise b latch r ⌝ }
@@ -76,10 +76,20 @@ pub fn stamp(b: Bridge, latch: u64) -> Stamped
     }
     match bridge::chosen(b) {
         Candidate::Nothing => Stamped::Refused(refusals::NO_CLOCK),
-        Candidate::Clock(_, _, number) => {
-            let clock = b.clock;
-            let ports = b.ports;
-            through(records::samples_at(number, clock, ports), LocalTime(latch))
-        }
+        Candidate::Clock(_, _, number) => match number {
+            0 => {
+                let clock = b.clock;
+                let samples = clock.samples;
+                through(samples, LocalTime(latch))
+            }
+            1 => through(records::samples(b.ports[0]), LocalTime(latch)),
+            2 => through(records::samples(b.ports[1]), LocalTime(latch)),
+            3 => through(records::samples(b.ports[2]), LocalTime(latch)),
+            4 => through(records::samples(b.ports[3]), LocalTime(latch)),
+            5 => through(records::samples(b.ports[4]), LocalTime(latch)),
+            6 => through(records::samples(b.ports[5]), LocalTime(latch)),
+            7 => through(records::samples(b.ports[6]), LocalTime(latch)),
+            _ => through(records::samples(b.ports[7]), LocalTime(latch)),
+        },
     }
 }

@@ -1,6 +1,6 @@
 -- Laws of lines one after the other, and of what is kept of a line.
 use mathlib.Core.Path.{_≡_, refl, sym, ap, _∙_}
-use mathlib.Core.Bool.{Bool, true, false, cond}
+use mathlib.Core.Bool.{Bool, true, false, cond, true≢false}
 use mathlib.Core.List.{List, [], _∷_, _++_, append-nil, append-assoc}
 use Prim.Native.Nat.{ℕ, zero, suc, _+_, _-_, _<_, _≤_}
 use native.Mathlib.Numerals.{add-one}
@@ -15,14 +15,12 @@ use Rattle.hex.specs.Search.{upTo, foundAt}
 use Rattle.answer.specs.Answer.{Answer, refusedLine}
 use Rattle.capture.specs.Capture.{listedAs}
 use Rattle.command.specs.Answer.{longestLine}
-use Rattle.session.specs.Session.{keptBytes, part, answerBy, Fed, left, saying, ended, fedOf, keptText}
+use Rattle.session.specs.Session.{keptBytes, part, listing, replay, answerBy, asksBy, Fed, left, saying, ended, fedOf, keptText}
 use Rattle.hex.specs.Character.{newline}
-use Rattle.session.specs.declared.Program.{Program}
-use Rattle.session.specs.declared.Program.the-variants.{Listing, Replay, Stamps}
 use Rattle.hex.proofs.SearchLaws.{up-taken}
 use Rattle.capture.proofs.CaptureLaws.{listed-long}
-use Rattle.latch.proofs.LatchLaws.{latch-long}
-use Rattle.command.proofs.AnswerLaws.{answer-long}
+use Rattle.latch.proofs.LatchLaws.{latch-stays, latch-long}
+use Rattle.command.proofs.AnswerLaws.{asks-stays, answer-long}
 
 -- ---- lists
 
@@ -68,16 +66,20 @@ pub kept-whole : (text more : List ℕ) (n i : ℕ) → n ≤ keptBytes → n �
 kept-whole text more n i k l h =
     sym (rw (drop-of-length-le more h, append-nil (take n text)) (take-all keptBytes (take n text) (rw (length-take-le n text l) k)))
 
+-- where nothing is kept, there was nothing
+pub kept-empty : (was bytes : List ℕ) (from end : ℕ) → from ≤ end → end ≤ length bytes → length (keptText was (part bytes from end)) ≡ 0 → end ≡ from
+kept-empty was bytes from end h k e = omega (arith, rw (length-take, length-append, length-take, length-drop) at e)
+
 -- ---- lines one after the other
 
 abbrev untilNewline : List ℕ → List ℕ
 untilNewline s = upTo newline s
 
 -- the one line of an answer
-abbrev answered : Answer → Fed
+abbrev pub answered : Answer → Fed
 answered a = ended (a .next) (a .text)
 
-module _ (p : Program) where
+module _ (p : ℕ) where
   -- ---- one part of the bytes after the other
 
   -- what holds of both ways on holds whichever is taken
@@ -151,45 +153,26 @@ module _ (p : Program) where
     rest-fed = rw (← until-end) (fed-rest (drop from bytes) line b)
 
   -- one part and then the next
-  pub more-fed : (b b₁ : Bridge) (line bytes was t₁ : List ℕ) (from mid to : ℕ) → from ≤ mid → mid ≤ to
-      → saying was (fedOf p b line (part bytes from mid)) ≡ ended b₁ t₁
-      → saying was (fedOf p b line (part bytes from to)) ≡ saying t₁ (fedOf p b₁ [] (part bytes mid to))
-  more-fed b b₁ line bytes was t₁ from mid to h k e =
-      let f = fedOf p b line (part bytes from mid) in
-      ap (λ (x : List ℕ). saying was (fedOf p b line x)) (parts bytes from mid to h k)
-      ∙ ap (saying was) (fed-parts (part bytes from mid) (part bytes mid to) line b)
-      ∙ said-twice was (f .text) (fedOf p (f .next) (f .line) (part bytes mid to))
+  pub more-fed : (b b₁ : Bridge) (line line₁ bytes t₁ : List ℕ) (from mid to : ℕ) → from ≤ mid → mid ≤ to
+      → fedOf p b line (part bytes from mid) ≡ record { next = b₁; line = line₁; text = t₁ }
+      → fedOf p b line (part bytes from to) ≡ saying t₁ (fedOf p b₁ line₁ (part bytes mid to))
+  more-fed b b₁ line line₁ bytes t₁ from mid to h k e =
+      ap (fedOf p b line) (parts bytes from mid to h k)
+      ∙ fed-parts (part bytes from mid) (part bytes mid to) line b
       ∙ ap (λ (x : Fed). saying (x .text) (fedOf p (x .next) (x .line) (part bytes mid to))) e
-
-  -- no line
-  pub lines-none : (b : Bridge) (bytes was : List ℕ) (from : ℕ) → saying was (fedOf p b [] (part bytes from from)) ≡ ended b was
-  unfolding fedOf
-  lines-none b bytes was from =
-      let z : from - from ≡ 0 = omega arith in
-      rw z (ap (ended b) (append-nil was))
-
-  -- and one line more
-  pub lines-on : (b b₁ b₂ : Bridge) (bytes was t₁ t₂ : List ℕ) (from start end : ℕ) → from ≤ start → end ≡ foundAt newline bytes start → end < length bytes
-      → saying was (fedOf p b [] (part bytes from start)) ≡ ended b₁ t₁
-      → b₂ ≡ answerBy p b₁ (part bytes start end) .next → t₂ ≡ t₁ ++ answerBy p b₁ (part bytes start end) .text
-      → saying was (fedOf p b [] (part bytes from (end + 1))) ≡ ended b₂ t₂
-  lines-on b b₁ b₂ bytes was t₁ t₂ from start end h e k d n t =
-      more-fed b b₁ [] bytes was t₁ from start (end + 1) h (omega arith) d
-      ∙ ap (saying t₁) (line-fed b₁ [] bytes start end e k)
-      ∙ (λ i. ended (sym n i) (sym t i))
 
   -- ---- a line that is too long
 
   -- is answered as bad by each program
-  abbrev badBy : Program → Bridge → Answer
-  badBy Listing b = listedAs b badNumber
-  badBy Replay b = refusedLine b
-  badBy Stamps b = listedAs b badNumber
+  abbrev badBy : ℕ → Bridge → Answer
+  badBy zero b = listedAs b badNumber
+  badBy (suc zero) b = refusedLine b
+  badBy (suc (suc p)) b = listedAs b badNumber
 
-  long-answer : (p : Program) (b : Bridge) (s : List ℕ) → longestLine < length s → badBy p b ≡ answerBy p b s
-  long-answer Listing b s h = listed-long b s (omega arith)
-  long-answer Replay b s h = answer-long b s h
-  long-answer Stamps b s h = listed-long b s (omega arith) ∙ latch-long b s (omega arith)
+  long-answer : (p : ℕ) (b : Bridge) (s : List ℕ) → longestLine < length s → badBy p b ≡ answerBy p b s
+  long-answer zero b s h = listed-long b s (omega arith)
+  long-answer (suc zero) b s h = answer-long b s h
+  long-answer (suc (suc p)) b s h = listed-long b s (omega arith) ∙ latch-long b s (omega arith)
 
   -- so what is kept of a line is answered as the whole line is
   pub kept-answers : (b : Bridge) (line : List ℕ) → answerBy p b (take keptBytes line) ≡ answerBy p b line
@@ -202,10 +185,20 @@ module _ (p : Program) where
           sym (long-answer p b (take keptBytes line) k) ∙ long-answer p b line h
       by false e = ap (answerBy p b) (take-all keptBytes line (omega (arith, ltb-false longestLine (length line) e)))
 
-  -- and the line that a read cut off, of which the start was kept, ends where the whole does
-  pub first-line : (b b₁ : Bridge) (line bytes kept t₁ : List ℕ) (from end : ℕ) → end ≡ foundAt newline bytes from → end < length bytes
-      → kept ≡ keptText line (part bytes from end) → b₁ ≡ answerBy p b kept .next → t₁ ≡ answerBy p b kept .text
-      → fedOf p b line (part bytes from (end + 1)) ≡ ended b₁ t₁
-  first-line b b₁ line bytes kept t₁ from end e h k n t =
-      let whole : answerBy p b (line ++ part bytes from end) ≡ answerBy p b kept = sym (ap (answerBy p b) k ∙ kept-answers b (line ++ part bytes from end)) in
-      line-fed b line bytes from end e h ∙ ap answered whole ∙ (λ i. ended (sym n i) (sym t i))
+-- ---- the programs by their numbers
+
+-- no program's line that asks changes the state
+pub asked-stays : (p : ℕ) (b : Bridge) (s : List ℕ) → asksBy p s ≡ true → answerBy p b s .next ≡ b
+asked-stays zero b s e = absurd (true≢false (sym e))
+asked-stays (suc zero) b s e = asks-stays b s e
+asked-stays (suc (suc p)) b s e = latch-stays b s e
+
+-- what holds of every number after the replay's holds of one that is neither the listing's nor the replay's
+pub other-program : (P : ℕ → Type 0) → ((p : ℕ) → P (suc (suc p))) → (p : ℕ) → (p ≡ listing → ⊥) → (p ≡ replay → ⊥) → P p
+other-program P f zero h k = absurd (h refl)
+other-program P f (suc zero) h k = absurd (k refl)
+other-program P f (suc (suc p)) h k = f p
+
+-- and the listing has no line that asks
+pub no-listing : (p : ℕ) (s : List ℕ) → asksBy p s ≡ true → p ≡ listing → ⊥
+no-listing p s e l = true≢false (sym e ∙ ap (λ (x : ℕ). asksBy x s) l)

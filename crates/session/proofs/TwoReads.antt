@@ -10,7 +10,6 @@ use Rattle.bridge.specs.declared.Bridge.{Bridge}
 use Rattle.answer.specs.Answer.{Answer}
 use Rattle.session.specs.Session.{keptBytes, part, answerBy, Fed, saying, fedOf, lineOf, Ready, Leaves, Turned}
 use Rattle.hex.specs.Character.{newline}
-use Rattle.session.specs.declared.Program.{Program}
 use Rattle.session.specs.declared.Progress.{Progress}
 use Rattle.session.specs.declared.Session.{Session}
 use Rattle.session.proofs.SessionLaws.{parts, both-ways, fed-parts, cut-twice, kept-answers}
@@ -20,7 +19,7 @@ abbrev Same : Fed → Fed → Type 0
 Same f g = (f .next ≡ g .next) × (take keptBytes (f .line) ≡ take keptBytes (g .line)) × (f .text ≡ g .text)
 
 -- lines of which the same is kept lead to the same
-kept-leads : (p : Program) (s l m : List ℕ) (b : Bridge) → take keptBytes l ≡ take keptBytes m → Same (fedOf p b l s) (fedOf p b m s)
+kept-leads : (p : ℕ) (s l m : List ℕ) (b : Bridge) → take keptBytes l ≡ take keptBytes m → Same (fedOf p b l s) (fedOf p b m s)
 unfolding fedOf
 kept-leads p [] l m b e = (refl, e, refl)
 kept-leads p (c ∷ s) l m b e =
@@ -32,7 +31,7 @@ kept-leads p (c ∷ s) l m b e =
     (ap (λ (x : Fed). x .next) same, ap (λ (x : Fed). take keptBytes (x .line)) same, ap (λ (x : Fed). x .text) same)
     (kept-leads p s (l ++ one) (m ++ one) b more) (eqb c newline)
 
-pub two-reads : (p : Program) (b : Bridge) (line s t t₁ t₂ : List ℕ) (s₁ s₂ : Session)
+pub two-reads : (p : ℕ) (b : Bridge) (line s t t₁ t₂ : List ℕ) (s₁ s₂ : Session)
     → Leaves (fedOf p b line s) s₁ → t₁ ≡ fedOf p b line s .text
     → Leaves (fedOf p (s₁ .bridge) (lineOf s₁) t) s₂ → t₂ ≡ fedOf p (s₁ .bridge) (lineOf s₁) t .text
     → Leaves (fedOf p b line (s ++ t)) s₂ × (t₁ ++ t₂ ≡ fedOf p b line (s ++ t) .text)
@@ -47,7 +46,7 @@ two-reads p b line s t t₁ t₂ s₁ s₂ h e₁ k e₂ =
 
 -- ---- turn by turn
 
-module _ (p : Program) (s : Session) (bytes : List ℕ) where
+module _ (p : ℕ) (s : Session) (bytes : List ℕ) where
   -- what the bytes before a place lead to
   abbrev before : ℕ → Fed
   before n = fedOf p (s .bridge) (lineOf s) (part bytes 0 n)

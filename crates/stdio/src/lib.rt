@@ -5,11 +5,10 @@ ghost use Rattle.columns.specs.Columns.{longestAnswer};
 ghost use Rattle.session.specs.Session.{fedOf, lineOf, Ready, Leaves};
 use libc::STDIN_FILENO;
 use libc::STDOUT_FILENO;
-use session::Program;
 use session::Session;
 
 // Answers what a read gave, and writes the answers.
-fn answered(program: Program, s: Session, bytes: &[u8], out: &mut [u8]) -> Session
+fn answered(program: u8, s: Session, bytes: &[u8], out: &mut [u8]) -> Session
     requires { ⌜ Ready s ⌝ }
     requires { ⌜ longestAnswer ≤ length (now out) ⌝ }
     ensures { λ r. ⌜ Ready r ⌝ }
@@ -28,7 +27,7 @@ fn answered(program: Program, s: Session, bytes: &[u8], out: &mut [u8]) -> Sessi
 }
 
 // Reads to the end of the input; a rest without a newline is a line too.
-pub fn run(program: Program) {
+pub fn run(program: u8) {
     let mut s = session::start(program);
     let mut input = io::large_buffer();
     let mut output = io::large_buffer();

@@ -1,16 +1,17 @@
 -- Laws of the table: the choice as a walk over the ports, a port whose link changes, whose samples a number means, and the settings of the first ports.
 use mathlib.Core.Path.{_≡_, refl, sym, ap, _∙_}
-use mathlib.Core.Bool.{Bool, true, false, cond, _&&_}
+use mathlib.Core.Bool.{Bool, true, false, _&&_}
 use mathlib.Core.List.{List, [], _∷_}
-use Prim.Native.Nat.{ℕ, zero, suc, _+_, _-_, _<_, _≤_}
+use Prim.Native.Nat.{ℕ, zero, suc, _+_, _-_, _/_, _^_, _<_, _≤_}
+use native.Mathlib.Nat.{zero-add, lt-of-lt-of-le}
 use native.Mathlib.Numerals.{add-one, sub-one}
 use native.Mathlib.Omega.{arith}
-use borrow.Author.Tests.{eq-eqb, ne-eqb}
 use lib.Dec.{eqb, ltb}
 use lib.ListN.{length, getD, take, drop}
+use lib.Pow.{pow-mono, shr-lt}
 use lib.Seq.{drop-cons, drop-length, getD-take, length-take-le}
 use Rattle.samples.specs.Keep.{LawfulSamples}
-use Rattle.choice.specs.Choose.{rankOf, candidateOf, betterOf}
+use Rattle.choice.specs.Choose.{rankOf, candidateOf, betterOf, numberOf}
 use Rattle.choice.specs.declared.Announcement.{Announcement}
 use Rattle.choice.specs.declared.Announcement.the-variants.{Silent, Announced}
 use Rattle.choice.specs.declared.Candidate.{Candidate}
@@ -21,9 +22,9 @@ use Rattle.port.specs.declared.Port.{Port}
 use Rattle.port.specs.declared.OwnClock.{OwnClock}
 use Rattle.port.specs.declared.Setting.{Setting}
 use Rattle.table.specs.Arguments.{bit}
-use Rattle.table.specs.Table.{portAt, relinkedPort, samplesAt, numberOf, samplesOfChoice, candidatesFrom, bestOf}
+use Rattle.table.specs.Table.{portAt, losesLink, relinkedPort, samplesAt, samplesOfChoice, candidatesFrom, bestOf}
 use Rattle.table.specs.Fits.{delayFits, delaysFit}
-use Rattle.numbers.proofs.Branches.{if-when}
+use Rattle.numbers.proofs.Branches.{if-true, if-false, if-when}
 
 -- ---- the choice, port by port
 
@@ -56,18 +57,25 @@ best-number k (p ∷ ports) choice h =
 
 -- ---- a port whose link changes, or not
 
+-- links below 2^n have no bit from n on
+pub link-beyond : (n links i : ℕ) → links < 2 ^ n → n ≤ i → bit links i ≡ 0
+link-beyond n links i l h =
+    let below : links < 2 ^ (0 + i) = rw (zero-add i) (lt-of-lt-of-le l (pow-mono h)) in
+    let none : links / 2 ^ i < 1 = shr-lt 0 i below in
+    omega arith
+
 module _ (links mask i : ℕ) (port : Port) where
-  pub relinked-down : bit links i ≡ 1 → bit mask i ≡ 0 → emptyPort ≡ relinkedPort links mask i port
+  pub relinked-lost : losesLink links mask i ≡ true → emptyPort ≡ relinkedPort links mask i port
   unfolding relinkedPort
-  relinked-down a z = λ k. cond (sym (eq-eqb (bit links i) 1 a) k && sym (eq-eqb (bit mask i) 0 z) k) emptyPort port
+  relinked-lost e = if-true _ emptyPort port e
 
-  pub relinked-up : bit links i ≡ 1 → (bit mask i ≡ 0 → ⊥) → port ≡ relinkedPort links mask i port
+  pub relinked-kept : losesLink links mask i ≡ false → port ≡ relinkedPort links mask i port
   unfolding relinkedPort
-  relinked-up a z = λ k. cond (sym (eq-eqb (bit links i) 1 a) k && sym (ne-eqb (bit mask i) 0 z) k) emptyPort port
+  relinked-kept e = if-false _ emptyPort port e
 
-  pub relinked-out : (bit links i ≡ 1 → ⊥) → port ≡ relinkedPort links mask i port
-  unfolding relinkedPort
-  relinked-out a = ap (λ (t : Bool). cond (t && eqb (bit mask i) 0) emptyPort port) (sym (ne-eqb (bit links i) 1 a))
+  -- a port beyond the links has no link to lose
+  pub relinked-beyond : (n : ℕ) → links < 2 ^ n → n ≤ i → port ≡ relinkedPort links mask i port
+  relinked-beyond n l h = relinked-kept (ap (λ (b : ℕ). eqb b 1 && eqb (bit mask i) 0) (link-beyond n links i l h))
 
 -- ---- whose samples
 
@@ -79,9 +87,6 @@ pub samples-port : (number : ℕ) (clock : OwnClock) (ports : List Port) → (nu
 unfolding samplesAt
 samples-port zero clock ports n = absurd (n refl)
 samples-port (suc i) clock ports n = ap (λ (k : ℕ). portAt ports k .samples) (sub-one (suc i))
-
-pub samples-none : (choice : Candidate) (clock : OwnClock) (ports : List Port) → choice ≡ Nothing → samplesOfChoice Nothing clock ports ≡ samplesOfChoice choice clock ports
-samples-none choice clock ports e = ap (λ (x : Candidate). samplesOfChoice x clock ports) (sym e)
 
 -- every clock's samples are lawful
 pub samples-lawful : (number : ℕ) (clock : OwnClock) (ports : List Port) → LawfulClock clock → ((i : ℕ) → LawfulPort (portAt ports i)) → LawfulSamples (samplesAt number clock ports)

@@ -1,11 +1,12 @@
 -- A loop that changes a list element by element, from the front: the elements below i are changed, and in the end all are.
-use mathlib.Core.Path.{_≡_, refl, sym, ap, _∙_}
+use mathlib.Core.Path.{_≡_, refl, sym, ap, _∙_, subst}
 use mathlib.Core.List.{List, [], _∷_}
-use Prim.Native.Nat.{ℕ, zero, suc, _+_, _<_, _≤_}
+use Prim.Native.Nat.{ℕ, zero, suc, _+_, _-_, _<_, _≤_}
 use native.Mathlib.Nat.{add-zero, zero-add, add-suc, suc-add, le-antisymm}
 use native.Mathlib.Numerals.{add-one}
 use native.Mathlib.Omega.{arith}
 use lib.ListN.{length, getD, set}
+use lib.Seq.{set-getD}
 use Rattle.table.specs.Table.{each}
 
 module _ {A : Type 0} (f : ℕ → A → A) where
@@ -54,8 +55,20 @@ module _ {A : Type 0} (f : ℕ → A → A) where
         ∙ ap (λ (n : ℕ). upTo 0 n l) (sym (add-one i));
   }
 
-  pub walked-end : (n : ℕ) (l : List A) (i : ℕ) (now : List A) → Walked n l i now → n ≤ i → now ≡ each f 0 l
+  walked-end : (n : ℕ) (l : List A) (i : ℕ) (now : List A) → Walked n l i now → n ≤ i → now ≡ each f 0 l
   walked-end n l i now w h = w .is ∙ ap (λ (m : ℕ). upTo 0 m l) (le-antisymm (w .within) h) ∙ upTo-all 0 n l (w .count)
+
+  -- an element that is to stay as it is need not be stored
+  pub walked-same : (n : ℕ) (l : List A) (i : ℕ) (now : List A) (d : A) → Walked n l i now → i < n → getD now i d ≡ f i (getD now i d) → Walked n l (i + 1) now
+  walked-same n l i now d w h e = subst (Walked n l (i + 1)) (set-getD now i d) (walked-more n l i now d (getD now i d) w h e)
+
+  -- nor need the loop go on where every element from i on is to stay as it is
+  pub walked-first : (n : ℕ) (l : List A) (i : ℕ) (now : List A) (d : A) → Walked n l i now → ((k : ℕ) → i ≤ k → k < n → getD now k d ≡ f k (getD now k d)) → now ≡ each f 0 l
+  walked-first n l i now d w h = go (n - i) i (omega (arith, w .within)) w h
+    where
+      go : (m i : ℕ) → i + m ≡ n → Walked n l i now → ((k : ℕ) → i ≤ k → k < n → getD now k d ≡ f k (getD now k d)) → now ≡ each f 0 l
+      go zero i e w h = walked-end n l i now w (omega arith)
+      go (suc m) i e w h = go m (i + 1) (omega arith) (walked-same n l i now d w (omega arith) (h i (omega arith) (omega arith))) (λ k a b. h k (omega arith) b)
 
   pub each-length : (k : ℕ) (l : List A) → length (each f k l) ≡ length l
   unfolding each

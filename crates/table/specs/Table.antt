@@ -28,9 +28,13 @@ each f k (a ∷ l) = f k a ∷ each f (suc k) l
 abbrev pub portAt : List Port → ℕ → Port
 portAt ports i = getD ports i emptyPort
 
--- a port whose bit goes from 1 to 0 loses its whole record
+-- the port at an index loses its link: its bit goes from 1 to 0
+abbrev pub losesLink : ℕ → ℕ → ℕ → Bool
+losesLink links mask i = eqb (bit links i) 1 && eqb (bit mask i) 0
+
+-- a port that loses its link loses its whole record
 unfoldable pub relinkedPort : ℕ → ℕ → ℕ → Port → Port
-relinkedPort links mask i port = cond (eqb (bit links i) 1 && eqb (bit mask i) 0) emptyPort port
+relinkedPort links mask i port = cond (losesLink links mask i) emptyPort port
 
 -- the candidates of the ports, the first of which has the number k
 unfoldable pub candidatesFrom : ℕ → List Port → List Candidate
@@ -50,11 +54,6 @@ choiceOf capable own ports = bestOf (ownCandidate capable own) (candidatesFrom 1
 unfoldable pub samplesAt : ℕ → OwnClock → List Port → Samples
 samplesAt zero clock ports = clock .samples
 samplesAt (suc i) clock ports = portAt ports i .samples
-
--- the number of a choice, 0 where there is none
-abbrev pub numberOf : Candidate → ℕ
-numberOf Nothing = 0
-numberOf (Clock precedence hop number) = number
 
 -- the samples of the chosen clock, none where no clock is chosen
 unfoldable pub samplesOfChoice : Candidate → OwnClock → List Port → Samples

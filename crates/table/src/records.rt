@@ -1,24 +1,23 @@
-// The plainest setup, and the eight records one after the other, with no other part of the state.
+// The plainest setup, and what is asked of one of the eight records, with no other part of the state.
 ghost use mathlib.Core.Path.{_≡_};
-ghost use Prim.Native.Nat.{_<_, _≤_};
-ghost use Rattle.port.specs.Record.{agedPort};
-ghost use Rattle.table.specs.Table.{each, samplesAt, samplesOfChoice, numberOf, relinkedPort, choiceOf};
+ghost use Prim.Native.Nat.{_<_};
+ghost use Rattle.choice.specs.Choose.{candidateOf, betterOf};
+ghost use Rattle.choice.specs.Rank.{Ranks};
+ghost use Rattle.choice.specs.declared.Candidate.{Candidate};
+ghost use Rattle.table.specs.Table.{losesLink};
 ghost use Rattle.table.specs.Fits.{plainSetup};
 use crate::Setup;
-use choice::Candidate;
 use choice::Precedence;
-use choice::candidates;
+use choice::Rank;
+use choice::ranks;
 use delay::DelaySetting;
 use frame::Mac;
-use port::OwnClock;
 use port::Port;
 use port::Setting;
-use port::record;
 use samples::Samples;
-use times::LocalTime;
 
 // How many records there are.
-const PORTS: usize = 8;
+pub const PORTS: usize = 8;
 
 // The setup of a station that is not capable and whose n ports all measure their delay, with zeros for address and precedence.
 pub fn plain_setup(n: u8, timeout: u64, back: u64) -> Setup
@@ -44,84 +43,29 @@ pub fn plain_setup(n: u8, timeout: u64, back: u64) -> Setup
     }
 }
 
-// The records once announcements that are too old are gone.
-pub fn aged(ports: [Port; 8], at: LocalTime, timeout: u64) -> [Port; 8]
-    ensures { λ r. ⌜ r ≡ each (λ _. agedPort at timeout) 0 ports ⌝ }
-{
-    let mut after = ports;
-    let mut i: usize = 0;
-    while i < PORTS {
-        let port = after[i];
-        after[i] = record::aged(port, at, timeout);
-        i += 1;
-    }
-    after
-}
-
-// A port's record once the links are `mask`, where they were `links`.
-fn relinked_port(port: Port, links: u8, mask: u8, i: usize) -> Port
+// Whether the port at index i loses its link where the links were `links` and are `mask`.
+pub fn loses_link(links: u8, mask: u8, i: usize) -> bool
     requires { ⌜ i < 8 ⌝ }
-    ensures { λ r. ⌜ r ≡ relinkedPort links mask i port ⌝ }
+    ensures { λ r. ⌜ r ≡ losesLink links mask i ⌝ }
 {
     if (links >> i) % 2 == 1 {
-        if (mask >> i) % 2 == 0 {
-            return record::empty();
-        }
+        return (mask >> i) % 2 == 0;
     }
-    port
+    false
 }
 
-// The records once the links are `mask`, where they were `links`.
-pub fn relinked(ports: [Port; 8], links: u8, mask: u8) -> [Port; 8]
-    ensures { λ r. ⌜ r ≡ each (relinkedPort links mask) 0 ports ⌝ }
+// The lesser of a rank and that of the clock announced in the record of the port with this number.
+pub fn lesser(best: Rank, port: Port, number: u8) -> Rank
+    ensures { λ r. ⌜ ((c : Candidate) → Ranks best c → Ranks r (betterOf c (candidateOf number (port .announcement)))) ⌝ }
 {
-    let mut after = ports;
-    let mut i: usize = 0;
-    while i < PORTS {
-        let port = after[i];
-        after[i] = relinked_port(port, links, mask, i);
-        i += 1;
-    }
-    after
+    let announcement = port.announcement;
+    ranks::lesser(best, announcement, number)
 }
 
-// The choice between the own clock, on a station that is capable, and the clocks announced at the ports.
-pub fn choice(capable: bool, own: Precedence, ports: [Port; 8]) -> Candidate
-    ensures { λ r. ⌜ r ≡ choiceOf capable own ports ⌝ }
+// The samples in a record.
+pub fn samples(port: Port) -> Samples
+    ensures { λ r. ⌜ r ≡ port .samples ⌝ }
 {
-    let mut best = candidates::own_candidate(capable, own);
-    let mut i: usize = 0;
-    while i < PORTS {
-        let port = ports[i];
-        let announcement = port.announcement;
-        best = candidates::better(best, candidates::candidate(announcement, (i + 1) as u8));
-        i += 1;
-    }
-    best
-}
-
-// The samples of the own clock, 0, or of a port.
-pub fn samples_at(number: u8, clock: OwnClock, ports: [Port; 8]) -> Samples
-    requires { ⌜ number ≤ 8 ⌝ }
-    ensures { λ r. ⌜ r ≡ samplesAt number clock ports ⌝ }
-{
-    if number == 0 {
-        let own = clock.samples;
-        return own;
-    }
-    let i = (number - 1) as usize;
-    let port = ports[i];
     let samples = port.samples;
     samples
-}
-
-// The samples of the chosen clock, none where no clock is chosen.
-pub fn samples_of_choice(choice: Candidate, clock: OwnClock, ports: [Port; 8]) -> Samples
-    requires { ⌜ numberOf choice ≤ 8 ⌝ }
-    ensures { λ r. ⌜ r ≡ samplesOfChoice choice clock ports ⌝ }
-{
-    match choice {
-        Candidate::Nothing => Samples::Empty,
-        Candidate::Clock(_, _, number) => samples_at(number, clock, ports),
-    }
 }

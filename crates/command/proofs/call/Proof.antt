@@ -1,27 +1,24 @@
 -- By the letter.
-use mathlib.Core.Path.{refl}
-use borrow.Author.Tests.{ne-eqb}
 use borrow.Author.Needs.{needs}
 use Rattle.command.specs.Answer.{callOf}
+use Rattle.command.proofs.AnswerLaws.{last-letter}
 use Rattle.command.proofs.call.Statement.{statement}
 use Rattle.command.proofs.call.Tie as tie
 
--- a letter whose call leaves the state as it is
-rest : tie.Need-returns-7
+-- the last letter that does not ask
+sends : tie.Need-returns-6
 unfolding callOf
-rest c =
+sends c =
     let a = c .before .before in
     let m = a .before .before in
     let n = m .match .rest in
-    rw (ne-eqb _ _ (n .0 .0 .0 .0 .0 .1), ne-eqb _ _ (n .0 .0 .0 .0 .1), ne-eqb _ _ (n .0 .0 .0 .1), ne-eqb _ _ (n .0 .0 .1), ne-eqb _ _ (n .0 .1), ne-eqb _ _ (n .1))
-    (record { state = refl; prints = a .asked .ensures; lawful = m .before .before .pre .0 })
+    rw (last-letter _ (n .0 .0 .0 .0 .1) (n .0 .0 .0 .1) (n .0 .0 .1) (n .0 .1) (n .1) (m .before .before .pre .1 .0)) (a .send .ensures)
 
 pub call-spec : {M : Type 1} → statement M
 unfolding callOf
 call-spec =
     tie.close
     (tie.spec
-    (λ c κs. search needs)
     (λ c κs. search needs)
     (λ c κs. search needs)
     (λ c κs. search needs)
@@ -39,6 +36,4 @@ call-spec =
     (λ c. search needs)
     (λ c. rw (c .before .before .before .before .match .keys5) (c .before .before .age .ensures))
     (λ c. search needs)
-    (λ c. rw (c .before .before .before .before .match .keys6) (c .before .before .send .ensures))
-    (λ c. search needs)
-    rest)
+    sends)

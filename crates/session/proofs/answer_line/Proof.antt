@@ -1,55 +1,65 @@
--- By the program.
-use mathlib.Core.Path.{_≡_, sym, ap}
+-- By the program; a line of a capture is answered alike by two of them.
+use mathlib.Core.Path.{_≡_, sym, ap, _∙_}
+use mathlib.Core.Bool.{false}
 use mathlib.Core.List.{List}
 use Prim.Native.Nat.{ℕ}
+use borrow.Author.Needs.{needs}
 use Rattle.bridge.specs.declared.Bridge.{Bridge}
 use Rattle.answer.specs.Answer.{Says}
 use Rattle.answer.specs.declared.Answered.{Answered}
-use Rattle.session.specs.Session.{answerBy}
-use Rattle.session.specs.declared.Program.{Program}
 use Rattle.answer.proofs.AnswerLaws.{as-says}
-use borrow.Author.Needs.{needs}
+use Rattle.capture.specs.Capture.{listedOf}
+use Rattle.latch.proofs.LatchLaws.{latch-listed}
+use Rattle.session.specs.Session.{answerBy, asksBy}
+use Rattle.session.proofs.SessionLaws.{other-program}
 use Rattle.session.proofs.answer_line.Statement.{statement}
 use Rattle.session.proofs.answer_line.Tie as tie
 
--- what the program that is told of answers, the one that runs answers
-told : {p q : Program} (b : Bridge) (s : List ℕ) {got : Answered} {was left : List ℕ} → p ≡ q → Says (answerBy q b s) got was left → Says (answerBy p b s) got was left
-told b s e = as-says (ap (λ (x : Program). answerBy x b s) (sym e))
+-- what the program of a number answers, the one that runs answers
+told : {p q : ℕ} (b : Bridge) (s : List ℕ) {got : Answered} {was left : List ℕ} → p ≡ q → Says (answerBy q b s) got was left → Says (answerBy p b s) got was left
+told b s e = as-says (ap (λ (x : ℕ). answerBy x b s) (sym e))
 
-returns : tie.Need-returns
-returns c =
-    let a = c .before .before in
-    let e = a .before .before in
-    let s = e .before .before .before .before in
-    told (s .args .b) (s .args .text .now) (e .enum-told .given .1) (a .answer-line .ensures)
+answer-line-requires-2 : tie.Need-answer-line-requires-2
+answer-line-requires-2 c κs =
+    let m = c .before in
+    let s = m .before .before .before in
+    (s .pre .0, (ap (λ (x : ℕ). asksBy x (s .args .text .now)) (sym (m .match .keys2)) ∙ s .pre .1 .0, s .pre .1 .1))
 
-returns-2 : tie.Need-returns-2
-returns-2 c =
-    let a = c .before .before in
-    let e = a .before .before in
-    let s = e .before .before .before .before in
-    told (s .args .b) (s .args .text .now) (e .enum-told2 .given .1) (a .answer-line2 .ensures)
+listing : tie.Need-returns
+listing c =
+    let r = c .before .before in
+    let m = r .before .before in
+    let a = m .before .before .before .args in
+    told (a .b) (a .text .now) (m .match .keys1) (r .answer-line .ensures)
 
-returns-3 : tie.Need-returns-3
-returns-3 c =
-    let a = c .before .before in
-    let e = a .before .before in
-    let s = e .before .before .before .before in
-    told (s .args .b) (s .args .text .now) (e .enum-told3 .given .1) (a .answer-line3 .ensures)
+replay : tie.Need-returns-2
+replay c =
+    let r = c .before .before in
+    let m = r .before .before in
+    let a = m .before .before .before .args in
+    told (a .b) (a .text .now) (m .match .keys2) (r .answer-line2 .ensures)
+
+stamps : tie.Need-returns-3
+stamps c =
+    let r = c .before .before in
+    let m = r .before .before in
+    let s = m .before .before .before in
+    let b = s .args .b in
+    let text = s .args .text .now in
+    as-says
+    (other-program (λ (x : ℕ). asksBy x text ≡ false → listedOf b text ≡ answerBy x b text) (λ p e. latch-listed b text e) _ (m .match .rest .0 .1) (m .match .rest .1) (s .pre .1 .0))
+    (r .answer-line3 .ensures)
 
 pub answer-line-spec : {M : Type 1} → statement M
 answer-line-spec =
     tie.close
     (tie.spec
-    (λ c. search needs)
+    (λ c κs. search needs)
+    answer-line-requires-2
     (λ c κs. search needs)
     (λ c. search needs)
-    (λ c κs. search needs)
+    listing
     (λ c. search needs)
-    (λ c κs. search needs)
+    replay
     (λ c. search needs)
-    returns
-    (λ c. search needs)
-    returns-2
-    (λ c. search needs)
-    returns-3)
+    stamps)

@@ -1,77 +1,162 @@
 -- Line by line: what the lines so far lead to and print, and what is filled stays within the output.
 use mathlib.Core.Path.{_≡_, refl, sym, ap, _∙_}
-use mathlib.Core.List.{[], _++_}
-use Prim.Native.Nat.{_+_, _-_, _^_, _<_, _≤_}
+use mathlib.Core.Logic.{inl, inr, ⊎-elim}
+use Prim.Native.Nat.{ℕ, _+_, _-_, _^_, _<_, _≤_}
 use native.Mathlib.Omega.{arith}
 use borrow.Author.Needs.{needs}
-use borrow.Author.Tests.{leb-true}
-use borrow.Rule.Slice.PartMut.{same-len-mid}
+use borrow.Author.Tests.{leb-true, leb-false}
 use lib.ListN.{length, take, drop, length-take, length-drop}
+use lib.Seq.{length-take-le}
+use mir.Syntax.{w64}
+use mir.Val.{Fits}
 use Rattle.bridge.specs.State.{Lawful}
-use Rattle.hex.specs.Search.{foundAt}
 use Rattle.columns.specs.Columns.{longestAnswer}
-use Rattle.session.specs.Session.{part, saying, ended, fedOf, Within}
-use Rattle.hex.specs.Character.{newline}
-use Rattle.hex.proofs.SearchLaws.{found-within}
-use Rattle.session.proofs.SessionLaws.{lines-none, lines-on, printed}
+use Rattle.session.specs.Session.{part, lineEnd, answerBy, ended, fedOf, Within}
+use Rattle.session.proofs.SessionLaws.{asked-stays}
+use Rattle.session.proofs.LineLaws.{Adds, adds, Stands, next-after, Goes, lines-none, lines-on, lines-end}
 use Rattle.session.proofs.whole_lines.Statement.{statement}
 use Rattle.session.proofs.whole_lines.Tie as tie
 
 abbrev Inv-loop : tie.InvT-loop
-Inv-loop program bytes from out₀ filled next₀ n₀ start₀ end₀ out next n start end =
-    Lawful next × Within from start n bytes out
-    × (saying (take filled out₀) (fedOf program next₀ [] (part bytes from start)) ≡ ended next (take n out))
-    × (end ≡ foundAt newline bytes start) × (length out ≡ length out₀) × (length out < 2 ^ 64) × (length bytes < 2 ^ 64)
+Inv-loop program first bytes from out₀ next₀ n₀ held₀ start₀ end₀ out next n held start end =
+    Lawful next × Stands first bytes from held n start × Goes program next₀ first bytes from held start next (take n out)
+    × (end ≡ lineEnd bytes start) × (start ≤ length bytes) × (held ≤ length first) × (n ≤ length out)
+    × (length out ≡ length out₀) × (length out < 2 ^ 64) × (length bytes < 2 ^ 64)
 
 abbrev μ-loop : tie.MeasureT-loop
-μ-loop program bytes from out₀ filled next₀ n₀ start₀ end₀ out next n start end = length bytes - end
+μ-loop program first bytes from out₀ next₀ n₀ held₀ start₀ end₀ out next n held start end = length bytes - end
 
 -- a turn has room for one more answer
 room : (c : tie.Then1 Inv-loop μ-loop) → longestAnswer ≤ length (c .before .before .loop .out) - c .before .before .loop .n
 room c = leb-true _ _ (c .if1 .taken)
 
+-- in the part of the output that is lent for it
+lent : (c : tie.Then1 Inv-loop μ-loop) →
+    let l = c .before .before .loop in
+    longestAnswer ≤ length (take (length (l .out) - l .n) (drop (l .n) (l .out)))
+lent c = simp (length-take, length-drop) (omega (arith, room c))
+
+-- and what is filled then is a number of the machine
+filled : (c : tie.Then1 Inv-loop μ-loop) (len : ℕ) → len ≤ longestAnswer → Fits w64 (c .before .before .loop .n + len)
+filled c len h = record { fits = omega (arith, room c, c .before .before .loop .inv) }
+
+-- what a turn adds, whether its line asks or not
+line-adds : (c : tie.Joined2 Inv-loop μ-loop) →
+    let a = c .before in
+    let l = a .before .before .before .before .before .before in
+    let s = l .before .before .before .before .before in
+    Adds (answerBy (s .args .program) (l .loop .next) (a .before .line .result .now)) (l .loop .out) (l .loop .n) (c .if2 .next) (c .if2 .out) (c .if2 .n)
+line-adds c =
+    let a = c .before in
+    let i = a .before .before .before .before in
+    let l = i .before .before in
+    let s = l .before .before .before .before .before in
+    let v = l .loop .inv in
+    let shown = a .before .line .result .now in
+    let want = answerBy (s .args .program) (l .loop .next) shown in
+    ⊎-elim
+    (λ w.
+    rw (w .5, w .6, w .7)
+    (adds want (l .loop .out) _ (w .2 .last .1 .1 .1 .0) (l .loop .n) _ (l .loop .next) (v .6) (room i) (w .2 .kept .1 .1 .1 .0)
+    (sym (asked-stays (s .args .program) (l .loop .next) shown (sym (a .asks .ensures) ∙ w .0 .taken))) (v .0) (w .2 .ensures)))
+    (λ w.
+    rw (w .7, w .8, w .9)
+    (adds want (l .loop .out) _ (w .2 .last .1 .1 .1 .0) (l .loop .n) _ _ (v .6) (room i) (w .2 .kept .1 .1 .1 .0) (w .2 .ensures .state) (w .2 .ensures .lawful) (w .2 .ensures .prints)))
+    (c .if2 .came)
+
 loop-holds : tie.Need-loop-holds Inv-loop μ-loop
 loop-holds c =
-    let s = c .before .before .before in
-    (s .pre .0, record { onward = omega arith; inside = s .pre .1 .0; fits = s .pre .1 .1 }, lines-none (s .args .program) (s .args .b) (s .args .bytes .now) _ (s .args .from), c .found .ensures, refl, omega arith, omega arith)
+    let s = c .before .before .before .before in
+    let a = s .args in (
+      s .pre .0,
+      inl (refl, refl, refl),
+      lines-none (a .program) (a .b) (a .first .now) (a .bytes .now) (a .from),
+      c .found .ensures,
+      omega (arith, s .pre .1 .0 .inside),
+      omega arith,
+      omega arith,
+      refl,
+      omega arith,
+      omega arith,
+    )
+
+slice-aggregate-line : tie.Need-slice-aggregate-line Inv-loop μ-loop
+slice-aggregate-line c = sym (length-take-le _ _ (c .before .before .before .loop .inv .5))
+
+asked-requires : tie.Need-asked-requires Inv-loop μ-loop
+asked-requires c κs =
+    let t = c .before in
+    let a = t .before in
+    let i = a .before .before .before .before in
+    (i .before .before .loop .inv .0, (sym (a .asks .ensures) ∙ t .if2 .taken, lent i))
 
 answer-line-requires : tie.Need-answer-line-requires Inv-loop μ-loop
 answer-line-requires c κs =
-    let i = c .before .before in
-    let l = i .before .before .loop in
-    (l .inv .0, simp (length-take, length-drop) (omega (arith, room i)))
+    let t = c .before in
+    let a = t .before in
+    let i = a .before .before .before .before in
+    (i .before .before .loop .inv .0, (sym (a .asks .ensures) ∙ t .if2 .left, lent i))
 
 add-n : tie.Need-add-n Inv-loop μ-loop
 add-n c =
+    let a = c .before .before in
+    let i = a .before .before .before .before .before .before .before in
+    filled i _ (a .asked .ensures .fits)
+
+add-n-2 : tie.Need-add-n-2 Inv-loop μ-loop
+add-n-2 c =
     let a = c .before .before .before .before in
-    let i = a .before .before .before in
-    omega (arith, room i, i .before .before .loop .inv, a .answer-line .ensures .prints .fits)
+    let i = a .before .before .before .before .before .before .before in
+    filled i _ (a .answer-line .ensures .prints .fits)
 
 loop-again : tie.Need-loop-again Inv-loop μ-loop
 loop-again c =
-    let a = c .before .before .before .before .before in
-    let i = a .before .before .before in
-    let t = i .before in
+    let j = c .before in
+    let r = j .before .before in
+    let t = r .before .before .before .before in
     let l = t .before .loop in
-    let s = t .before .before .before .before .before in
-    let bytes = s .args .bytes .now in
-    let k = length (l .out) - l .n in
-    let lent = a .answer-line .last .1 .1 .1 .0 in
-    let said = a .answer-line .ensures in
-    let same = same-len-mid (l .n) k (l .out) lent (a .answer-line .kept .1 .1 .1 .0) in
-    let within = found-within newline bytes (l .end + 1) (omega (arith, t .loop-test .taken)) in (
-      said .lawful,
-      record { onward = omega (arith, l .inv); inside = omega (arith, t .loop-test .taken); fits = omega (arith, same, room i, l .inv, said .prints .fits) },
-      lines-on (s .args .program) (s .args .b) (l .next) (a .answer-line .result .next) bytes (take (s .args .filled) (s .args .out .now)) (take (l .n) (l .out)) _ (s .args .from) (l .start) (l .end) (l .inv .1 .onward) (l .inv .3) (t .loop-test .taken)
-          (l .inv .2) (said .state) (printed (l .out) _ _ lent _ (l .n) _ (l .inv .1 .fits) (said .prints .size) (said .prints .bytes)),
+    let s = t .before .before .before .before .before .before in
+    let a = s .args in
+    let v = l .inv in
+    let x = line-adds j in (
+      x .lawful,
+      inr (refl, omega (arith, v .3, next-after (a .first .now) (a .bytes .now) (a .from) (l .held) (l .n) (l .start) (v .1))),
+      lines-on (a .program) (a .b) (a .first .now) (a .bytes .now) (a .from) (s .pre .1 .0) (l .next) _ _ (take (l .n) (l .out)) _ (l .held) (l .n) (l .start) (l .end) (v .3) (t .loop-test .taken) (v .2) (r .line .ensures) (x .state) (x .text) (v .1),
       c .found2 .ensures,
-      same ∙ l .inv .4,
-      omega (arith, same, l .inv),
-      l .inv .6,
+      omega (arith, t .loop-test .taken),
+      omega arith,
+      x .fits,
+      x .same ∙ v .7,
+      omega (arith, x .same, v .8),
+      v .9,
     )
 
-returns-2 : tie.Need-returns-2 Inv-loop μ-loop
-returns-2 c = search needs
+-- where the loop is left, a line has been answered
+done : (c : tie.At-loop Inv-loop μ-loop) →
+    let l = c .loop in
+    let s = c .before .before .before .before .before in
+    (l .n ≡ 0 → l .start ≡ s .args .from → ⊥)
+    → Lawful (l .next)
+    × ((fedOf (s .args .program) (s .args .b) (s .args .first .now) (part (s .args .bytes .now) (lineEnd (s .args .bytes .now) (s .args .from)) (l .start)) ≡ ended (l .next) (take (l .n) (l .out)))
+    × Within (lineEnd (s .args .bytes .now) (s .args .from) + 1) (l .start) (l .n) (s .args .bytes .now) (l .out))
+done c f =
+    let l = c .loop in
+    let a = c .before .before .before .before .before .args in
+    let v = l .inv in
+    let e = lines-end (a .program) (a .b) (a .first .now) (a .bytes .now) (a .from) (l .next) (take (l .n) (l .out)) (l .held) (l .n) (l .start) (v .1) f (v .2) in
+    (v .0, (e .0, record { onward = omega (arith, e .1); inside = v .4; fits = v .6 }))
+
+no-room : tie.Need-returns Inv-loop μ-loop
+no-room c =
+    let l = c .before .before in
+    let s = l .before .before .before .before .before in
+    done l (λ z w. omega (arith, leb-false longestAnswer (length (l .loop .out) - l .loop .n) (c .if1 .left), s .pre .1 .1, l .loop .inv .7))
+
+no-line : tie.Need-returns-2 Inv-loop μ-loop
+no-line c =
+    let l = c .before in
+    let s = l .before .before .before .before .before in
+    done l (λ z w. omega (arith, c .loop-test .left, l .loop .inv .3, ap (lineEnd (s .args .bytes .now)) w, s .pre .1 .0 .inside))
 
 pub whole-lines-spec : {M : Type 1} → statement M
 whole-lines-spec =
@@ -82,19 +167,27 @@ whole-lines-spec =
     (λ c κs. search needs)
     loop-holds
     (λ c. search needs)
+    slice-aggregate-line
     (λ c. search needs)
     (λ c. search needs)
     (λ c. search needs)
+    (λ c κs. search needs)
+    (λ c κs. search needs)
+    (λ c. search needs)
+    (λ c. search needs)
+    (λ c. search needs)
+    asked-requires
+    add-n
     (λ c. search needs)
     (λ c. search needs)
     (λ c. search needs)
     answer-line-requires
-    add-n
+    add-n-2
     (λ c. search needs)
     (λ c κs. search needs)
     (λ c. search needs)
     loop-again
     (λ c. search needs)
+    no-room
     (λ c. search needs)
-    (λ c. search needs)
-    returns-2)
+    no-line)

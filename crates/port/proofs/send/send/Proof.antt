@@ -1,19 +1,15 @@
--- By what is composed: a frame fills the output, a refusal leaves it, and the next frameCount is used up.
+-- By what is composed: a frame fills the output, a refusal leaves it; either way the next frameCount is used up.
 use borrow.Author.Needs.{needs}
-use mathlib.Core.Path.{_≡_, refl, sym, ap, _∙_}
+use mathlib.Core.Path.{_≡_, sym, ap, subst, _∙_}
+use mathlib.Core.Logic.{⊎-elim}
 use mathlib.Core.List.{List}
 use Prim.Native.Nat.{ℕ}
-use Rattle.times.specs.Times.{nextCount}
+use lib.ListN.{length}
 use Rattle.port.specs.Record.{withCount}
-use Rattle.port.specs.Send.{sendingNo, sendingDone, sendingBytes}
-use Rattle.port.specs.declared.Port.{Port}
-use Rattle.port.specs.declared.PortDone.{PortDone}
+use Rattle.port.specs.Send.{sendingNo, sendingBytes}
 use Rattle.port.specs.declared.Sending.{Sending}
 use Rattle.port.proofs.send.send.Statement.{statement}
 use Rattle.port.proofs.send.send.Tie as tie
-
-next-count-requires : tie.Need-next-count-requires
-next-count-requires c κs = search needs
 
 composed-requires : tie.Need-composed-requires
 composed-requires c κs = search needs
@@ -27,41 +23,37 @@ enum-known-f c = search needs
 put-requires : tie.Need-put-requires
 put-requires c κs = search needs
 
--- what is composed is as wanted, and so are the answer, the record and the output
-sent : {s want : Sending} {n : ℕ} (port : Port) (out : List ℕ) → s ≡ want → n ≡ nextCount (port .count)
-    → (_≡_ {A = PortDone} (record { answer = sendingNo s; port = withCount port n }) (sendingDone want port)) × (sendingBytes s out ≡ sendingBytes want out)
-sent port out e k = (λ i. record { answer = sendingNo (e i); port = withCount port (k i) }, ap (λ (x : Sending). sendingBytes x out) e)
+next-count-requires : tie.Need-next-count-requires
+next-count-requires c κs = search needs
+
+-- the answer, and the output that was `before`, are those of a sending
+abbrev Answered : ℕ → List ℕ → List ℕ → Sending → Type 0
+Answered answer out before s = (answer ≡ sendingNo s) × (out ≡ sendingBytes s before)
+
+-- where the two ways meet, they are those of what is composed
+met : (c : tie.At-match-came) → Answered (c .match .answer) (c .match .out) (c .before .before .before .args .out .now) (c .before .composed .result)
+met c =
+    let by = Answered (c .match .answer) (c .match .out) (c .before .before .before .args .out .now) in
+    ⊎-elim (λ w. subst by (sym (w .1 .given .1)) (w .4, w .3)) (λ w. subst by (sym (w .1 .given .1)) (w .8, w .7 ∙ w .4 .ensures)) (c .match .came)
+
+same-length : tie.Need-same-length
+same-length c = ⊎-elim (λ w. ap length (w .3)) (λ w. ap length (w .7) ∙ w .4 .kept .1 .0) (c .before .match .came)
 
 returns : tie.Need-returns
 returns c =
-    let r = c .before in
-    let k = r .before .before in
-    let n = k .before in
-    let a = n .before .before .args in
-    sent (a .port) (a .out .now) (sym (r .refusal .given .1) ∙ k .composed .ensures) (n .next-count .ensures)
-
-same-length : tie.Need-same-length
-same-length c = search needs
-
-returns-2 : tie.Need-returns-2
-returns-2 c =
-    let p = c .before .before in
-    let f = p .before .before .before in
-    let k = f .before .before in
-    let n = k .before in
-    let a = n .before .before .args in
-    let s = sent (a .port) (a .out .now) (sym (f .f .given .1) ∙ k .composed .ensures) (n .next-count .ensures) in
-    (s .0, p .put .ensures ∙ s .1)
+    let k = c .before .before in
+    let a = k .before .before .args in
+    let m = subst (Answered (c .before .match .answer) (c .before .match .out) (a .out .now)) (k .composed .ensures) (met (c .before)) in
+    (λ i. record { answer = m .0 i; port = withCount (a .port) (c .next-count .ensures i) }, m .1)
 
 pub send-spec : {M : Type 1} → statement M
 send-spec =
     tie.close
     (tie.spec
-    next-count-requires
     composed-requires
     enum-known-refusal
     enum-known-f
     put-requires
-    returns
+    next-count-requires
     same-length
-    returns-2)
+    returns)
