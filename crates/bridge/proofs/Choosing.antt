@@ -3,13 +3,14 @@ use mathlib.Core.Path.{_≡_, refl, sym, _∙_, subst}
 use Prim.Native.Nat.{ℕ, _+_, _<_}
 use lib.ListN.{length, drop}
 use Rattle.choice.specs.Choose.{candidateOf, ownCandidate, betterOf}
-use Rattle.choice.specs.Rank.{Ranks}
+use Rattle.choice.specs.Rank.{inNumbers, CandidateFits, Ranks, lesserOf}
 use Rattle.choice.specs.declared.Candidate.{Candidate}
 use Rattle.choice.specs.declared.Rank.{Rank}
 use Rattle.port.specs.Record.{emptyPort}
 use Rattle.table.specs.Table.{portAt, candidatesFrom, bestOf}
 use Rattle.bridge.specs.Chosen.{chosenOf}
 use Rattle.bridge.specs.declared.Bridge.{Bridge}
+use Rattle.choice.proofs.RankLaws.{better-rank}
 use Rattle.table.proofs.TableLaws.{best-turn, best-end}
 
 module _ (b : Bridge) where
@@ -24,10 +25,11 @@ module _ (b : Bridge) where
 
   -- then each port
   pub ranked-port : (k : ℕ) (best next : Rank) → k < length (b .ports) → RanksAt k best
-      → ((c : Candidate) → Ranks best c → Ranks next (betterOf c (candidateOf (k + 1) (portAt (b .ports) k .announcement)))) → RanksAt (k + 1) next
-  ranked-port k best next l w step =
+      → let x = candidateOf (k + 1) (portAt (b .ports) k .announcement) in (next ≡ lesserOf best (inNumbers x)) × CandidateFits x → RanksAt (k + 1) next
+  ranked-port k best next l w s =
       let c = w .0 in
-      (betterOf c (candidateOf (k + 1) (portAt (b .ports) k .announcement)), step c (w .1), best-turn (b .ports) k emptyPort c _ l refl ∙ w .2)
+      let x = candidateOf (k + 1) (portAt (b .ports) k .announcement) in
+      (betterOf c x, rw (s .0) (better-rank (w .1) (record { is = refl; fits = s .1 })), best-turn (b .ports) k emptyPort c _ l refl ∙ w .2)
 
   -- and in the end the choice
   pub ranked-all : (k : ℕ) (best : Rank) → length (b .ports) ≡ k → RanksAt k best → Ranks best (chosenOf b)

@@ -102,11 +102,13 @@ better-fits Nothing d f g = g
 better-fits (Clock p h i) Nothing f g = f
 better-fits (Clock p h i) (Clock q k j) f g = if-when CandidateFits (ltb (rankOf q k j) (rankOf p h i)) (λ _. g) (λ _. f)
 
--- against no candidate, any stays
-pub better-nothing : (c : Candidate) → betterOf c Nothing ≡ c
-unfolding betterOf
-better-nothing Nothing = refl
-better-nothing (Clock p h n) = refl
+-- no rank is above what stands for no candidate, and against that any stays
+both-most : (m q s r t : ℕ) → q ≤ s → r ≤ t → q * m + r ≤ s * m + t
+both-most m q s r t k l = omega (arith, mul-le-mul-right m k)
+
+pub lesser-nothing : (r : Rank) → r .0 ≤ lastNumber → r .1 ≤ lastNumber → r ≡ lesserOf r (inNumbers Nothing)
+unfolding lesserOf inNumbers
+lesser-nothing r k l = if-false _ _ _ (le-ltb _ _ (both-most (2 ^ 64) (r .0) lastNumber (r .1) lastNumber k l))
 
 -- both, of any two ranks
 pub better-rank : {a b : Rank} {c d : Candidate} → Ranks a c → Ranks b d → Ranks (lesserOf a b) (betterOf c d)

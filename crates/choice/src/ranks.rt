@@ -2,8 +2,8 @@
 ghost use mathlib.Core.Path.{_≡_};
 ghost use Prim.Native.Nat.{_<_};
 ghost use lib.Dec.{ltb};
-ghost use Rattle.choice.specs.Choose.{candidateOf, ownCandidate, betterOf};
-ghost use Rattle.choice.specs.Rank.{lowerEnd, Ranks, Ranked, worthOf, lesserOf, precedenceAt, candidateAt};
+ghost use Rattle.choice.specs.Choose.{candidateOf, ownCandidate};
+ghost use Rattle.choice.specs.Rank.{lowerEnd, inNumbers, CandidateFits, Ranks, Ranked, worthOf, lesserOf, precedenceAt, candidateAt};
 use crate::Announcement;
 use crate::Candidate;
 use crate::Precedence;
@@ -79,7 +79,8 @@ fn lesser_of(a: Rank, b: Rank) -> Rank
 
 // The lesser of a rank and that of the clock announced at the port with this number.
 pub fn lesser(best: Rank, announcement: Announcement, number: u8) -> Rank
-    ensures { λ r. ⌜ ((c : Candidate) → Ranks best c → Ranks r (betterOf c (candidateOf number announcement))) ⌝ }
+    ensures { λ r. ⌜ r ≡ lesserOf best (inNumbers (candidateOf number announcement)) ⌝ }
+    ensures { λ _. ⌜ CandidateFits (candidateOf number announcement) ⌝ }
 {
     match announcement {
         Announcement::Silent => best,

@@ -1,9 +1,8 @@
 // The plainest setup, and what is asked of one of the eight records, with no other part of the state.
 ghost use mathlib.Core.Path.{_≡_};
 ghost use Prim.Native.Nat.{_<_};
-ghost use Rattle.choice.specs.Choose.{candidateOf, betterOf};
-ghost use Rattle.choice.specs.Rank.{Ranks};
-ghost use Rattle.choice.specs.declared.Candidate.{Candidate};
+ghost use Rattle.choice.specs.Choose.{candidateOf};
+ghost use Rattle.choice.specs.Rank.{inNumbers, CandidateFits, lesserOf};
 ghost use Rattle.table.specs.Table.{losesLink};
 ghost use Rattle.table.specs.Fits.{plainSetup};
 use crate::Setup;
@@ -56,7 +55,8 @@ pub fn loses_link(links: u8, mask: u8, i: usize) -> bool
 
 // The lesser of a rank and that of the clock announced in the record of the port with this number.
 pub fn lesser(best: Rank, port: Port, number: u8) -> Rank
-    ensures { λ r. ⌜ ((c : Candidate) → Ranks best c → Ranks r (betterOf c (candidateOf number (port .announcement)))) ⌝ }
+    ensures { λ r. ⌜ r ≡ lesserOf best (inNumbers (candidateOf number (port .announcement))) ⌝ }
+    ensures { λ _. ⌜ CandidateFits (candidateOf number (port .announcement)) ⌝ }
 {
     let announcement = port.announcement;
     ranks::lesser(best, announcement, number)
