@@ -1,0 +1,4 @@
+pub mod TimestampLaws
+pub mod Trips
+pub mod ScaleLaws
+pub mod Edges

@@ -1,0 +1,17 @@
+-- The second or the refusal, of this scale.
+use mathlib.Core.Path.{sym, ap, _∙_}
+use borrow.Author.Needs.{needs}
+use Rattle.ptp.specs.Scale.{asGps}
+use Rattle.ptp.proofs.ScaleLaws.{gps-by}
+use Rattle.ptp.proofs.scales.gps.Statement.{statement}
+use Rattle.ptp.proofs.scales.gps.Tie as tie
+
+pub gps-spec : {M : Type 1} → statement M
+gps-spec =
+    tie.close
+    (tie.spec
+    (λ c κs. search needs)
+    (λ c. search needs)
+    (λ c. search needs)
+    (λ c. gps-by _ (sym (c .before .n .given .1) ∙ c .before .before .before .on-scale .ensures))
+    (λ c. gps-by _ (sym (c .before .no .given .1) ∙ c .before .before .before .on-scale .ensures)))

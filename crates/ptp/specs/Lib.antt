@@ -1,0 +1,4 @@
+pub mod Timestamp
+pub mod Scale
+pub mod Demands
+pub mod Edges

@@ -1,0 +1,61 @@
+-- PTP seconds on the scales of GPS, UTC and NTP.
+use mathlib.Core.Bool.{cond}
+use Prim.Native.Nat.{ℕ, _^_}
+use lib.Dec.{ltb}
+use lib.IntN.{ℤ, pos, negsuc, _+ℤ_, _-ℤ_}
+use Rattle.refusals.specs.Refusals.{outOfRange, beyondRange}
+use Rattle.ptp.specs.declared.PtpSecond.{PtpSecond}
+use Rattle.ptp.specs.declared.scales.Scaled.{Scaled}
+use Rattle.ptp.specs.declared.scales.Scaled.the-variants.{Second, Refused}
+use Rattle.ptp.specs.declared.scales.ToGps.{ToGps}
+use Rattle.ptp.specs.declared.scales.ToGps.the-variants as Gps
+use Rattle.ptp.specs.declared.scales.ToUtc.{ToUtc}
+use Rattle.ptp.specs.declared.scales.ToUtc.the-variants as Utc
+use Rattle.ptp.specs.declared.scales.ToNtp.{ToNtp}
+use Rattle.ptp.specs.declared.scales.ToNtp.the-variants as Ntp
+
+-- where the seconds of every scale end: they have 48 bits
+abbrev pub secondsEnd : ℕ
+secondsEnd = 2 ^ 48
+
+-- 13 for a second below zero or from 2^48 on
+abbrev pub secondOf : ℤ → Scaled
+secondOf (pos n) = cond (ltb n secondsEnd) (Second n) (Refused beyondRange)
+secondOf (negsuc n) = Refused beyondRange
+
+-- a PTP second and its second on a scale: 2 for the one first, then 13 for the other
+unfoldable pub scaledOf : ℕ → ℤ → Scaled
+scaledOf ptp z = cond (ltb ptp secondsEnd) (secondOf z) (Refused outOfRange)
+
+-- ---- GPS = PTP - 315,964,819
+
+abbrev pub gpsOffset : ℕ
+gpsOffset = 315964819
+
+abbrev pub asGps : Scaled → ToGps
+asGps (Second n) = Gps.Second (record { 0 = n })
+asGps (Refused k) = Gps.Refused k
+
+unfoldable pub gpsOf : PtpSecond → ToGps
+gpsOf s = asGps (scaledOf (s .0) (pos (s .0) -ℤ pos gpsOffset))
+
+-- ---- UTC = PTP - leapSeconds
+
+abbrev pub asUtc : Scaled → ToUtc
+asUtc (Second n) = Utc.Second (record { 0 = n })
+asUtc (Refused k) = Utc.Refused k
+
+unfoldable pub utcOf : PtpSecond → ℤ → ToUtc
+utcOf s leapSeconds = asUtc (scaledOf (s .0) (pos (s .0) -ℤ leapSeconds))
+
+-- ---- NTP = PTP + 2,208,988,800 - leapSeconds
+
+abbrev pub ntpOffset : ℕ
+ntpOffset = 2208988800
+
+abbrev pub asNtp : Scaled → ToNtp
+asNtp (Second n) = Ntp.Second (record { 0 = n })
+asNtp (Refused k) = Ntp.Refused k
+
+unfoldable pub ntpOf : PtpSecond → ℤ → ToNtp
+ntpOf s leapSeconds = asNtp (scaledOf (s .0) (pos (s .0) +ℤ pos ntpOffset -ℤ leapSeconds))

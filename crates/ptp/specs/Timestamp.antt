@@ -1,0 +1,44 @@
+-- Timestamps of a PTP analyser: the PTP time of a grand time, and the grand time of a PTP time.
+use mathlib.Core.Bool.{cond, _&&_}
+use Prim.Native.Nat.{ℕ, _+_, _-_, _*_, _/_, _^_}
+use lib.Dec.{ltb}
+use Rattle.refusals.specs.Refusals.{outOfRange}
+use Rattle.times.specs.Times.{second}
+use Rattle.times.specs.declared.GrandTime.{GrandTime}
+use Rattle.ptp.specs.declared.PtpSecond.{PtpSecond}
+use Rattle.ptp.specs.declared.PtpTime.{PtpTime}
+use Rattle.ptp.specs.declared.Exported.{Exported}
+use Rattle.ptp.specs.declared.Exported.the-variants as Exports
+use Rattle.ptp.specs.declared.Imported.{Imported}
+use Rattle.ptp.specs.declared.Imported.the-variants as Imports
+
+-- the nanoseconds of a second
+abbrev pub billion : ℕ
+billion = 10 ^ 9
+
+-- ---- outward
+
+-- the nanosecond of a fraction: floor(fraction × 10^9 / 2^40)
+unfoldable pub nanosecondOf : ℕ → ℕ
+nanosecondOf fraction = fraction * billion / second
+
+-- the seconds as they are
+abbrev pub ptpTimeOf : GrandTime → PtpTime
+ptpTimeOf g = record { 0 = record { 0 = g .0 }; 1 = nanosecondOf (g .1) }
+
+-- 2 for seconds or a fraction out of range
+unfoldable pub exportOf : GrandTime → Exported
+exportOf g = cond (ltb (g .0) second && ltb (g .1) second) (Exports.At (ptpTimeOf g)) (Exports.Refused outOfRange)
+
+-- ---- inward
+
+-- the fraction of a nanosecond: nanosecond × 2^40 / 10^9, rounded up; `import-least` says that this is the least one whose nanosecond it is
+unfoldable pub fractionOf : ℕ → ℕ
+fractionOf nanosecond = (nanosecond * second + (billion - 1)) / billion
+
+abbrev pub grandTimeOf : PtpTime → GrandTime
+grandTimeOf t = record { 0 = t .0 .0; 1 = fractionOf (t .1) }
+
+-- 2 for seconds that grand time has not, or for a nanosecond that a second has not
+unfoldable pub importOf : PtpTime → Imported
+importOf t = cond (ltb (t .0 .0) second && ltb (t .1) billion) (Imports.At (grandTimeOf t)) (Imports.Refused outOfRange)
