@@ -48,7 +48,7 @@ bytesText (x ∷ xs) = textOf (x ∷ xs)
 unfoldable pub bytesLine : List ℕ → List ℕ
 bytesLine bytes = bytesText bytes ++ (newline ∷ [])
 
--- ---- lines of one byte, of two, of three, and of one byte and then bytes
+-- ---- lines of one byte, of two, of three, and of one byte and then bytes or a grand time
 
 abbrev pub line1 : ℕ → List ℕ
 line1 a = columnsText (1 ∷ 0 ∷ []) (a ∷ newline ∷ [])
@@ -61,6 +61,10 @@ line3 a b c = columnsText (1 ∷ 0 ∷ 1 ∷ 0 ∷ 1 ∷ 0 ∷ []) (a ∷ space 
 
 abbrev pub lineWith : ℕ → List ℕ → List ℕ
 lineWith a bytes = columnsText (1 ∷ 0 ∷ []) (a ∷ space ∷ []) ++ bytesLine bytes
+
+-- seconds and fraction have 40 bits each
+abbrev pub lineTime : ℕ → ℕ → ℕ → List ℕ
+lineTime a seconds fraction = columnsText (1 ∷ 0 ∷ 5 ∷ 5 ∷ 0 ∷ []) (a ∷ space ∷ seconds ∷ fraction ∷ newline ∷ [])
 
 -- ---- what a function that prints promises
 

@@ -5,7 +5,7 @@ ghost use Prim.Native.Nat.{_+_, _*_, _≤_};
 ghost use lib.ListN.{length, take, drop};
 ghost use Rattle.numbers.specs.Digits.{digits};
 ghost use Rattle.hex.specs.Print.{textOf};
-ghost use Rattle.columns.specs.Columns.{columnText, columnsText, columnRoom, room, bytesText, bytesLine, line1, line2, line3, lineWith, mostBytes, longestAnswer, Prints};
+ghost use Rattle.columns.specs.Columns.{columnText, columnsText, columnRoom, room, bytesText, bytesLine, line1, line2, line3, lineWith, lineTime, mostBytes, longestAnswer, Prints};
 use hex::digits;
 use hex::text;
 
@@ -13,6 +13,9 @@ use hex::text;
 pub const CHARACTER: usize = 0;
 
 pub const BYTE: usize = 1;
+
+// The width of a grand time's seconds, and of its fraction.
+const HALF_TIME: usize = 5;
 
 // Characters, as values of a column.
 pub const SPACE: u64 = b' ' as u64;
@@ -145,6 +148,18 @@ pub fn with_bytes(out: &mut [u8], a: u8, bytes: &[u8]) -> usize
 {
     let at = put(out, &[BYTE, CHARACTER], &[a as u64, SPACE]);
     put_bytes(out, at, bytes)
+}
+
+// Prints one byte and then a grand time, its seconds and its fraction.
+pub fn with_time(out: &mut [u8], a: u8, seconds: u64, fraction: u64) -> usize
+    requires { ⌜ longestAnswer ≤ length (now out) ⌝ }
+    ensures { λ r. ⌜ Prints (lineTime a seconds fraction) r (now (out .entry)) (now (out .exit)) ⌝ }
+{
+    line(
+        out,
+        &[BYTE, CHARACTER, HALF_TIME, HALF_TIME, CHARACTER],
+        &[a as u64, SPACE, seconds, fraction, NEWLINE],
+    )
 }
 
 // Prints bytes.

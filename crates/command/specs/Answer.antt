@@ -36,13 +36,14 @@ use Rattle.bridge.specs.declared.LinkCount.the-variants.{Refused as beyond, Up}
 use Rattle.recorder.specs.Stamp.{stampOf, stampNo}
 use Rattle.recorder.specs.declared.Stamped.{Stamped}
 use Rattle.recorder.specs.declared.Stamped.the-variants.{At, Refused as unstamped}
-use Rattle.columns.specs.Columns.{columnsText, bytesLine, line1, line2, lineWith}
+use Rattle.columns.specs.Columns.{columnsText, bytesLine, line1, line2, lineWith, lineTime}
 use Rattle.hex.specs.Character.{space, newline}
-use Rattle.fields.specs.Form.{noForm, formOf}
+use Rattle.fields.specs.Form.{noForm, numberIn, formOf}
 use Rattle.fields.specs.declared.Form.{Form}
-use Rattle.answer.specs.Answer.{Answer, says, badText, refusedLine, doneSays}
+use Rattle.analyser.specs.Line.{analyserText}
+use Rattle.answer.specs.Answer.{Answer, says, refusedLine, doneSays}
 use Rattle.command.specs.Row.{letterS, letterL, letterO, letterR, letterA, letterC, letterT, letterD, letterF, letterW, letterB, letterE, rowOf}
-use Rattle.command.specs.Argument.{numberIn, byteIn, sizeIn, setupIn, fieldsIn, untouched}
+use Rattle.command.specs.Argument.{byteIn, sizeIn, setupIn, fieldsIn, untouched}
 
 -- ---- the calls that change the state
 
@@ -105,17 +106,13 @@ pieceOf Second a b = take precedenceBytes (drop precedenceStart b)
 unfoldable pub betterText : List ℕ → List ℕ → List ℕ
 betterText a b = bytesLine (pieceOf (winnerOf (standingOf a) (standingOf b)) a b)
 
--- how many bytes each column of a stamp has; 0 is a character
-abbrev pub stampWidths : List ℕ
-stampWidths = 1 ∷ 0 ∷ 5 ∷ 5 ∷ 0 ∷ []
-
 abbrev pub stampText : Stamped → List ℕ
-stampText (At g) = columnsText stampWidths (stampNo (At g) ∷ space ∷ g .0 ∷ g .1 ∷ newline ∷ [])
+stampText (At g) = lineTime (stampNo (At g)) (g .0) (g .1)
 stampText (unstamped k) = line1 (stampNo (unstamped k))
 
 -- ---- the letter's call
 
--- C, D, F, W, B, E: what is printed
+-- C, D, F, W, B, E, and the letters of an analyser's lines: what is printed
 unfoldable pub askedText : ℕ → Bridge → Form → List ℕ
 askedText letter b f =
     cond (eqb letter letterC) (chosenText (chosenOf b))
@@ -124,7 +121,7 @@ askedText letter b f =
     (cond (eqb letter letterW) (writeText (fieldsIn f) (untouched (sizeIn f 10)))
     (cond (eqb letter letterB) (betterText (take (sizeIn f 0) (f .bytes)) (take (sizeIn f 1) (drop (sizeIn f 0) (f .bytes))))
     (cond (eqb letter letterE) (stampText (stampOf b (numberIn f 0)))
-    badText)))))
+    (analyserText letter f))))))
 
 -- S, L, O, R, A, T, and those
 unfoldable pub callOf : ℕ → Bridge → Form → Answer
@@ -151,7 +148,7 @@ asksBy letter =
 -- ---- a line
 
 -- the longest line that can be one, B with two frames of 128 bytes: the letter, and twice a space and 256 digits.
--- The others have at most, with every number at its 16 digits: S 230, L 18, O 69, R 292, A 18, C 1, T 52, D 18, F 258, W 186, E 18
+-- The others have at most, with every number at its 16 digits: S 230, L 18, O 69, R 292, A 18, C 1, T 52, D 18, F 258, W 186, E 18; X and I 35, G 18, U and N 23
 abbrev pub longestLine : ℕ
 longestLine = 515
 

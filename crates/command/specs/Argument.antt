@@ -14,15 +14,13 @@ use Rattle.port.specs.declared.Setting.{Setting}
 use Rattle.table.specs.declared.Setup.{Setup}
 use Rattle.bridge.specs.Setup.{defaultTimeout, defaultBack}
 use Rattle.fields.specs.Field.{mostFlag, mostLength}
+use Rattle.fields.specs.Form.{numberIn}
 use Rattle.fields.specs.declared.Form.{Form}
 
 -- ---- numbers
 
 abbrev pub byteValues : ℕ
 byteValues = 256
-
-abbrev pub numberIn : Form → ℕ → ℕ
-numberIn f i = getD (f .numbers) i 0
 
 abbrev pub markedIn : Form → ℕ → Bool
 markedIn f i = getD (f .marked) i false

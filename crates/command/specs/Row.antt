@@ -1,11 +1,12 @@
 -- The letter of each call, and the kinds of the fields that follow it.
 use Prim.Native.Nat.{ℕ, _+_}
 use mathlib.Core.Bool.{cond}
-use mathlib.Core.List.{List, [], _∷_, _++_}
-use lib.ListN.{take, replicate}
+use mathlib.Core.List.{List, [], _∷_}
+use lib.ListN.{replicate}
 use lib.Dec.{eqb}
-use Rattle.fields.specs.Kind.{END, BYTE, NUMBER, NUMBER-OR-DEFAULT, DELAY-OR-MEASURED, FLAG, LENGTH, BYTES, EXACTLY}
-use Rattle.fields.specs.Form.{mostFields}
+use Rattle.fields.specs.Kind.{BYTE, NUMBER, NUMBER-OR-DEFAULT, DELAY-OR-MEASURED, FLAG, LENGTH, BYTES, EXACTLY}
+use Rattle.fields.specs.Form.{row}
+use Rattle.analyser.specs.Line.{analyserRow}
 
 -- the letters, in ASCII
 abbrev pub letterS : ℕ
@@ -56,15 +57,7 @@ ERROR = EXACTLY + 4
 
 -- ---- rows
 
--- a row's places, one more than it has fields
-abbrev pub places : ℕ
-places = mostFields + 1
-
--- the kinds, and END in the places after them
-abbrev pub row : List ℕ → List ℕ
-row kinds = take places (kinds ++ replicate places END)
-
--- the row of each letter; nothing follows C, or a letter that no call has
+-- the row of each letter; nothing follows C. The other letters are those of an analyser's lines, or of none
 unfoldable pub rowOf : ℕ → List ℕ
 rowOf letter =
     cond (eqb letter letterS) (row (BYTE ∷ ADDRESS ∷ PRECEDENCE ∷ FLAG ∷ NUMBER-OR-DEFAULT ∷ NUMBER-OR-DEFAULT ∷ replicate 8 DELAY-OR-MEASURED))
@@ -78,4 +71,4 @@ rowOf letter =
     (cond (eqb letter letterW) (row (ADDRESS ∷ PRECEDENCE ∷ BYTE ∷ BYTE ∷ NUMBER ∷ NUMBER ∷ NUMBER ∷ NUMBER ∷ NUMBER ∷ ERROR ∷ LENGTH ∷ []))
     (cond (eqb letter letterB) (row (BYTES ∷ BYTES ∷ []))
     (cond (eqb letter letterE) (row (NUMBER ∷ []))
-    (row [])))))))))))
+    (analyserRow letter)))))))))))

@@ -1,4 +1,4 @@
-// One line of text to one call of the bridge, and its answer to one line of text.
+// One line of text to one call, and its answer to one line of text.
 pub mod arguments;
 pub mod changes;
 pub mod questions;
@@ -69,7 +69,7 @@ pub fn asks(text: &[u8]) -> bool
     }
 }
 
-// A letter whose call leaves the state as it is.
+// A letter whose call leaves the state as it is: the bridge's, and then those of an analyser's lines.
 fn asked(b: Bridge, letter: u8, form: Form, out: &mut [u8]) -> usize
     requires { ⌜ Lawful b ⌝ }
     requires { ⌜ length (form .bytes) ≡ bufferBytes ⌝ }
@@ -83,7 +83,7 @@ fn asked(b: Bridge, letter: u8, form: Form, out: &mut [u8]) -> usize
         b'W' => questions::write(form, out),
         b'B' => questions::better(form, out),
         b'E' => questions::stamp(b, form, out),
-        _ => columns::one(out, refusals::BAD_LINE),
+        _ => analyser::asked(letter, form, out),
     }
 }
 

@@ -12,9 +12,9 @@ ghost use Rattle.bridge.specs.Chosen.{chosenOf};
 ghost use Rattle.bridge.specs.Drift.{driftAt};
 ghost use Rattle.recorder.specs.Stamp.{stampOf};
 ghost use Rattle.fields.specs.Field.{mostLength};
-ghost use Rattle.fields.specs.Form.{bufferBytes};
+ghost use Rattle.fields.specs.Form.{bufferBytes, numberIn};
 ghost use Rattle.columns.specs.Columns.{longestAnswer, lineWith, Prints};
-ghost use Rattle.command.specs.Argument.{numberIn, byteIn, sizeIn, fieldsIn, untouched};
+ghost use Rattle.command.specs.Argument.{byteIn, sizeIn, fieldsIn, untouched};
 ghost use Rattle.command.specs.Answer.{chosenText, IsNumber, driftText, fieldValues, readText, writeText, betterText, stampText};
 use crate::arguments;
 use crate::changes;
@@ -205,20 +205,13 @@ pub fn better(form: Form, out: &mut [u8]) -> usize
     columns::only_bytes(out, better::better(&all[..n], &all[n..end]))
 }
 
-// The columns of a stamp.
-const STAMP_WIDTHS: [usize; 5] = [BYTE, CHARACTER, 5, 5, CHARACTER];
-
 // Prints a stamp after the answer 0, or the refusal.
 fn stamped(stamp: Stamped, out: &mut [u8]) -> usize
     requires { ⌜ longestAnswer ≤ length (now out) ⌝ }
     ensures { λ r. ⌜ Prints (stampText stamp) r (now (out .entry)) (now (out .exit)) ⌝ }
 {
     match stamp {
-        Stamped::At(time) => columns::line(
-            out,
-            &STAMP_WIDTHS,
-            &[refusals::DONE as u64, SPACE, time.0, time.1, NEWLINE],
-        ),
+        Stamped::At(time) => columns::with_time(out, refusals::DONE, time.0, time.1),
         Stamped::Refused(no) => columns::one(out, no),
     }
 }

@@ -1,7 +1,7 @@
 // The kinds of the fields that follow each letter.
 ghost use mathlib.Core.Path.{_≡_};
-ghost use mathlib.Core.List.{[], _∷_};
-ghost use Rattle.command.specs.Row.{row, rowOf};
+ghost use Rattle.command.specs.Row.{rowOf};
+use fields::kind;
 use fields::kind::BYTE;
 use fields::kind::BYTES;
 use fields::kind::END;
@@ -22,30 +22,7 @@ const OR_DEFAULT: u8 = fields::kind::NUMBER_OR_DEFAULT;
 
 const DELAY: u8 = fields::kind::DELAY_OR_MEASURED;
 
-// A row of at most four kinds.
-fn short(a: u8, b: u8, c: u8, d: u8) -> [u8; 15]
-    ensures { λ r. ⌜ r ≡ row (a ∷ b ∷ c ∷ d ∷ []) ⌝ }
-{
-    [
-        a,
-        b,
-        c,
-        d,
-        END,
-        END,
-        END,
-        END,
-        END,
-        END,
-        END,
-        END,
-        END,
-        END,
-        END,
-    ]
-}
-
-// The row of a letter; nothing follows C, or a letter that no call has.
+// The row of a letter; nothing follows C. A letter that is none of the bridge's is one of the analyser's lines, or of none.
 pub fn row(letter: u8) -> [u8; 15]
     ensures { λ r. ⌜ r ≡ rowOf letter ⌝ }
 {
@@ -67,13 +44,13 @@ pub fn row(letter: u8) -> [u8; 15]
             DELAY,
             END,
         ],
-        b'L' => short(BYTE, END, END, END),
-        b'O' => short(BYTE, NUMBER, NUMBER, NUMBER),
-        b'R' => short(BYTE, NUMBER, BYTES, END),
-        b'A' => short(NUMBER, END, END, END),
-        b'T' => short(BYTE, NUMBER, LENGTH, END),
-        b'D' => short(BYTE, END, END, END),
-        b'F' => short(BYTES, END, END, END),
+        b'L' => kind::row(BYTE, END, END, END),
+        b'O' => kind::row(BYTE, NUMBER, NUMBER, NUMBER),
+        b'R' => kind::row(BYTE, NUMBER, BYTES, END),
+        b'A' => kind::row(NUMBER, END, END, END),
+        b'T' => kind::row(BYTE, NUMBER, LENGTH, END),
+        b'D' => kind::row(BYTE, END, END, END),
+        b'F' => kind::row(BYTES, END, END, END),
         b'W' => [
             ADDRESS,
             PRECEDENCE,
@@ -91,8 +68,8 @@ pub fn row(letter: u8) -> [u8; 15]
             END,
             END,
         ],
-        b'B' => short(BYTES, BYTES, END, END),
-        b'E' => short(NUMBER, END, END, END),
-        _ => [END; 15],
+        b'B' => kind::row(BYTES, BYTES, END, END),
+        b'E' => kind::row(NUMBER, END, END, END),
+        _ => analyser::row(letter),
     }
 }

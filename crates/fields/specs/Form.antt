@@ -2,7 +2,7 @@
 use Prim.Native.Nat.{ℕ, suc, _+_, _*_, _-_}
 use mathlib.Core.Bool.{Bool, false, cond}
 use mathlib.Core.List.{List, [], _∷_, _++_}
-use lib.ListN.{length, set, take, drop, replicate}
+use lib.ListN.{length, set, getD, take, drop, replicate}
 use lib.Dec.{eqb}
 use Rattle.hex.specs.Digit.{pairs}
 use Rattle.hex.specs.Search.{upTo}
@@ -17,6 +17,13 @@ mostFields = 14
 
 abbrev pub bufferBytes : ℕ
 bufferBytes = 256
+
+-- a row: the kinds, and END in the places after them; it has one place more than there are fields
+abbrev pub places : ℕ
+places = mostFields + 1
+
+abbrev pub row : List ℕ → List ℕ
+row kinds = take places (kinds ++ replicate places END)
 
 -- the kinds before the row's end
 abbrev pub kindsOf : List ℕ → List ℕ
@@ -55,6 +62,10 @@ walk (kind ∷ kinds) text i h =
     let field = fieldAt kind (bufferBytes - h .used) text in
     let content = pairs (take (field .size * 2) (drop 1 text)) in
     cond (field .good) (walk kinds (drop (suc (field .width)) text) (i + 1) (stored i field content h)) (formWith false h)
+
+-- field i as a number
+abbrev pub numberIn : Form → ℕ → ℕ
+numberIn f i = getD (f .numbers) i 0
 
 -- what `read` answers
 unfoldable pub formOf : List ℕ → List ℕ → Form

@@ -1,4 +1,8 @@
 // The kinds of a field, as a row of kinds names them.
+ghost use mathlib.Core.Path.{_≡_};
+ghost use mathlib.Core.List.{[], _∷_};
+ghost use Rattle.fields.specs.Form.{row};
+
 // What ends a row.
 pub const END: u8 = 0;
 
@@ -23,3 +27,26 @@ pub const BYTES: u8 = 7;
 
 // EXACTLY + k: just k bytes, k from 1 on.
 pub const EXACTLY: u8 = 8;
+
+// A row of at most four kinds.
+pub fn row(a: u8, b: u8, c: u8, d: u8) -> [u8; 15]
+    ensures { λ r. ⌜ r ≡ row (a ∷ b ∷ c ∷ d ∷ []) ⌝ }
+{
+    [
+        a,
+        b,
+        c,
+        d,
+        END,
+        END,
+        END,
+        END,
+        END,
+        END,
+        END,
+        END,
+        END,
+        END,
+        END,
+    ]
+}

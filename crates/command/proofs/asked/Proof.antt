@@ -5,13 +5,13 @@ use Rattle.command.specs.Answer.{askedText}
 use Rattle.command.proofs.asked.Statement.{statement}
 use Rattle.command.proofs.asked.Tie as tie
 
--- no call's letter
+-- none of the bridge's letters
 rest : tie.Need-returns-7
 unfolding askedText
 rest c =
     let a = c .before .before in
     let n = a .before .before .match .rest in
-    rw (ne-eqb _ _ (n .0 .0 .0 .0 .0 .1), ne-eqb _ _ (n .0 .0 .0 .0 .1), ne-eqb _ _ (n .0 .0 .0 .1), ne-eqb _ _ (n .0 .0 .1), ne-eqb _ _ (n .0 .1), ne-eqb _ _ (n .1)) (a .one .ensures)
+    rw (ne-eqb _ _ (n .0 .0 .0 .0 .0 .1), ne-eqb _ _ (n .0 .0 .0 .0 .1), ne-eqb _ _ (n .0 .0 .0 .1), ne-eqb _ _ (n .0 .0 .1), ne-eqb _ _ (n .0 .1), ne-eqb _ _ (n .1)) (a .asked .ensures)
 
 pub asked-spec : {M : Type 1} → statement M
 unfolding askedText

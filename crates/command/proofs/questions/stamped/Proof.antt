@@ -11,13 +11,10 @@ stamped-spec =
     tie.close
     (tie.spec
     (λ c. search needs)
-    (λ c. search needs)
-    (λ c. search needs)
-    (λ c. search needs)
     (λ c κs. search needs)
     (λ c. search needs)
     (λ c κs. search needs)
     (λ c. search needs)
-    (λ c. as-prints (ap stampText (sym (c .before .before .before .before .before .before .before .stamp .given .1))) (c .before .before .line .ensures))
+    (λ c. as-prints (ap stampText (sym (c .before .before .before .before .before .stamp .given .1))) (c .before .before .with-time .ensures))
     (λ c. search needs)
     (λ c. as-prints (ap stampText (sym (c .before .before .before .before .before .stamp2 .given .1))) (c .before .before .one .ensures)))

@@ -6,12 +6,12 @@ use Rattle.command.specs.Row.{rowOf}
 use Rattle.command.proofs.rows.row.Statement.{statement}
 use Rattle.command.proofs.rows.row.Tie as tie
 
--- no call's letter
+-- none of the bridge's letters
 rest : tie.Need-returns-12
 unfolding rowOf
 rest c =
-    let n = c .match .rest in
-    rw (ne-eqb _ _ (n .0 .0 .0 .0 .0 .0 .0 .0 .0 .0 .1), ne-eqb _ _ (n .0 .0 .0 .0 .0 .0 .0 .0 .0 .1), ne-eqb _ _ (n .0 .0 .0 .0 .0 .0 .0 .0 .1), ne-eqb _ _ (n .0 .0 .0 .0 .0 .0 .0 .1), ne-eqb _ _ (n .0 .0 .0 .0 .0 .0 .1), ne-eqb _ _ (n .0 .0 .0 .0 .0 .1), ne-eqb _ _ (n .0 .0 .0 .0 .1), ne-eqb _ _ (n .0 .0 .0 .1), ne-eqb _ _ (n .0 .0 .1), ne-eqb _ _ (n .0 .1), ne-eqb _ _ (n .1))
+    let n = c .before .match .rest in
+    rw (ne-eqb _ _ (n .0 .0 .0 .0 .0 .0 .0 .0 .0 .0 .1), ne-eqb _ _ (n .0 .0 .0 .0 .0 .0 .0 .0 .0 .1), ne-eqb _ _ (n .0 .0 .0 .0 .0 .0 .0 .0 .1), ne-eqb _ _ (n .0 .0 .0 .0 .0 .0 .0 .1), ne-eqb _ _ (n .0 .0 .0 .0 .0 .0 .1), ne-eqb _ _ (n .0 .0 .0 .0 .0 .1), ne-eqb _ _ (n .0 .0 .0 .0 .1), ne-eqb _ _ (n .0 .0 .0 .1), ne-eqb _ _ (n .0 .0 .1), ne-eqb _ _ (n .0 .1), ne-eqb _ _ (n .1)) (c .row10 .ensures)
 
 pub row-spec : {M : Type 1} → statement M
 unfolding rowOf
@@ -27,15 +27,16 @@ row-spec =
     (λ c κs. search needs)
     (λ c κs. search needs)
     (λ c κs. search needs)
+    (λ c κs. search needs)
     (λ c. ap rowOf (sym (c .match .keys1)))
-    (λ c. c .short .ensures ∙ ap rowOf (sym (c .before .match .keys2)))
-    (λ c. c .short2 .ensures ∙ ap rowOf (sym (c .before .match .keys3)))
-    (λ c. c .short3 .ensures ∙ ap rowOf (sym (c .before .match .keys4)))
-    (λ c. c .short4 .ensures ∙ ap rowOf (sym (c .before .match .keys5)))
-    (λ c. c .short5 .ensures ∙ ap rowOf (sym (c .before .match .keys6)))
-    (λ c. c .short6 .ensures ∙ ap rowOf (sym (c .before .match .keys7)))
-    (λ c. c .short7 .ensures ∙ ap rowOf (sym (c .before .match .keys8)))
+    (λ c. c .row .ensures ∙ ap rowOf (sym (c .before .match .keys2)))
+    (λ c. c .row2 .ensures ∙ ap rowOf (sym (c .before .match .keys3)))
+    (λ c. c .row3 .ensures ∙ ap rowOf (sym (c .before .match .keys4)))
+    (λ c. c .row4 .ensures ∙ ap rowOf (sym (c .before .match .keys5)))
+    (λ c. c .row5 .ensures ∙ ap rowOf (sym (c .before .match .keys6)))
+    (λ c. c .row6 .ensures ∙ ap rowOf (sym (c .before .match .keys7)))
+    (λ c. c .row7 .ensures ∙ ap rowOf (sym (c .before .match .keys8)))
     (λ c. ap rowOf (sym (c .match .keys9)))
-    (λ c. c .short8 .ensures ∙ ap rowOf (sym (c .before .match .keys10)))
-    (λ c. c .short9 .ensures ∙ ap rowOf (sym (c .before .match .keys11)))
+    (λ c. c .row8 .ensures ∙ ap rowOf (sym (c .before .match .keys10)))
+    (λ c. c .row9 .ensures ∙ ap rowOf (sym (c .before .match .keys11)))
     rest)

@@ -1,0 +1,166 @@
+// The lines for a PTP analyser. Above each stands the line; its fields are counted from 0, the first after the letter. No bridge is known here.
+ghost use mathlib.Core.Path.{_≡_};
+ghost use Prim.Native.Nat.{_≤_};
+ghost use lib.ListN.{length};
+ghost use Rattle.ptp.specs.Timestamp.{exportOf, importOf};
+ghost use Rattle.ptp.specs.Scale.{gpsOf, utcOf, ntpOf};
+ghost use Rattle.fields.specs.Form.{numberIn};
+ghost use Rattle.columns.specs.Columns.{longestAnswer, Prints};
+ghost use Rattle.analyser.specs.Line.{analyserRow, secondIn, leapIn, exportText, importText, secondText, gpsText, utcText, ntpText, analyserText};
+use columns::BYTE;
+use columns::CHARACTER;
+use columns::NEWLINE;
+use columns::SPACE;
+use fields::Form;
+use fields::kind;
+use fields::kind::END;
+use fields::kind::NUMBER;
+use numbers::digits;
+use numbers::whole;
+use ptp::Exported;
+use ptp::Imported;
+use ptp::PtpSecond;
+use ptp::PtpTime;
+use ptp::scales;
+use ptp::scales::ToGps;
+use ptp::scales::ToNtp;
+use ptp::scales::ToUtc;
+use times::GrandTime;
+
+// The bytes of leap seconds, where they stand in the line's bytes, and the kind of a field of just so many.
+const LEAP_BYTES: usize = 2;
+
+const LEAP_AT: usize = 0;
+
+const LEAP: u8 = kind::EXACTLY + 2;
+
+// The first number of 16 bits that stands for one below zero, and how many there are in all.
+const SIGN: u64 = 0x8000;
+
+const NUMBERS: u64 = 0x1_0000;
+
+// The bytes of a second and of a nanosecond.
+const SECOND: usize = 6;
+
+const NANOSECOND: usize = 4;
+
+// The row of a letter; nothing follows one that no call has.
+pub fn row(letter: u8) -> [u8; 15]
+    ensures { λ r. ⌜ r ≡ analyserRow letter ⌝ }
+{
+    match letter {
+        b'X' => kind::row(NUMBER, NUMBER, END, END),
+        b'I' => kind::row(NUMBER, NUMBER, END, END),
+        b'G' => kind::row(NUMBER, END, END, END),
+        b'U' => kind::row(NUMBER, LEAP, END, END),
+        b'N' => kind::row(NUMBER, LEAP, END, END),
+        _ => kind::row(END, END, END, END),
+    }
+}
+
+// The leap seconds at the start of the line's bytes, in two's complement.
+fn leap(b: [u8; 256]) -> i16
+    ensures { λ r. ⌜ r ≡ leapIn b ⌝ }
+{
+    let bits = digits::number_at(&b, LEAP_AT, LEAP_BYTES);
+    if bits < SIGN {
+        return bits as i16;
+    }
+    whole::difference(bits, NUMBERS) as i16
+}
+
+// `X sec frac`.
+fn export(form: Form, out: &mut [u8]) -> usize
+    requires { ⌜ longestAnswer ≤ length (now out) ⌝ }
+    ensures { λ r. ⌜ Prints (exportText (exportOf (record { 0 = numberIn form 0; 1 = numberIn form 1 }))) r (now (out .entry)) (now (out .exit)) ⌝ }
+{
+    match ptp::export(GrandTime(form.numbers[0], form.numbers[1])) {
+        Exported::At(time) => {
+            let second = time.0;
+            columns::line(
+                out,
+                &[BYTE, CHARACTER, SECOND, CHARACTER, NANOSECOND, CHARACTER],
+                &[
+                    refusals::DONE as u64,
+                    SPACE,
+                    second.0,
+                    SPACE,
+                    time.1,
+                    NEWLINE,
+                ],
+            )
+        }
+        Exported::Refused(no) => columns::one(out, no),
+    }
+}
+
+// `I sec nano`.
+fn import(form: Form, out: &mut [u8]) -> usize
+    requires { ⌜ longestAnswer ≤ length (now out) ⌝ }
+    ensures { λ r. ⌜ Prints (importText (importOf (record { 0 = secondIn form; 1 = numberIn form 1 }))) r (now (out .entry)) (now (out .exit)) ⌝ }
+{
+    match ptp::import(PtpTime(PtpSecond(form.numbers[0]), form.numbers[1])) {
+        Imported::At(time) => columns::with_time(out, refusals::DONE, time.0, time.1),
+        Imported::Refused(no) => columns::one(out, no),
+    }
+}
+
+// Prints a second after the answer 0.
+fn second(n: u64, out: &mut [u8]) -> usize
+    requires { ⌜ longestAnswer ≤ length (now out) ⌝ }
+    ensures { λ r. ⌜ Prints (secondText n) r (now (out .entry)) (now (out .exit)) ⌝ }
+{
+    columns::line(
+        out,
+        &[BYTE, CHARACTER, SECOND, CHARACTER],
+        &[refusals::DONE as u64, SPACE, n, NEWLINE],
+    )
+}
+
+// `G sec`.
+fn gps(form: Form, out: &mut [u8]) -> usize
+    requires { ⌜ longestAnswer ≤ length (now out) ⌝ }
+    ensures { λ r. ⌜ Prints (gpsText (gpsOf (secondIn form))) r (now (out .entry)) (now (out .exit)) ⌝ }
+{
+    match scales::gps(PtpSecond(form.numbers[0])) {
+        ToGps::Second(gps_second) => second(gps_second.0, out),
+        ToGps::Refused(no) => columns::one(out, no),
+    }
+}
+
+// `U sec leap`.
+fn utc(form: Form, out: &mut [u8]) -> usize
+    requires { ⌜ longestAnswer ≤ length (now out) ⌝ }
+    ensures { λ r. ⌜ Prints (utcText (utcOf (secondIn form) (leapIn (form .bytes)))) r (now (out .entry)) (now (out .exit)) ⌝ }
+{
+    match scales::utc(PtpSecond(form.numbers[0]), leap(form.bytes)) {
+        ToUtc::Second(utc_second) => second(utc_second.0, out),
+        ToUtc::Refused(no) => columns::one(out, no),
+    }
+}
+
+// `N sec leap`.
+fn ntp(form: Form, out: &mut [u8]) -> usize
+    requires { ⌜ longestAnswer ≤ length (now out) ⌝ }
+    ensures { λ r. ⌜ Prints (ntpText (ntpOf (secondIn form) (leapIn (form .bytes)))) r (now (out .entry)) (now (out .exit)) ⌝ }
+{
+    match scales::ntp(PtpSecond(form.numbers[0]), leap(form.bytes)) {
+        ToNtp::Second(ntp_second) => second(ntp_second.0, out),
+        ToNtp::Refused(no) => columns::one(out, no),
+    }
+}
+
+// What is printed for a letter, with what its fields say; that the line is bad where no call has the letter.
+pub fn asked(letter: u8, form: Form, out: &mut [u8]) -> usize
+    requires { ⌜ longestAnswer ≤ length (now out) ⌝ }
+    ensures { λ r. ⌜ Prints (analyserText letter form) r (now (out .entry)) (now (out .exit)) ⌝ }
+{
+    match letter {
+        b'X' => export(form, out),
+        b'I' => import(form, out),
+        b'G' => gps(form, out),
+        b'U' => utc(form, out),
+        b'N' => ntp(form, out),
+        _ => columns::one(out, refusals::BAD_LINE),
+    }
+}
