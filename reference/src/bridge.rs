@@ -1,7 +1,7 @@
 //! The bridge: its ports, the station's own clock and the calls.
 
 use crate::answer::{
-    Answer, BAD_LENGTH, BAD_SETUP, DONE, NO_CLOCK, NO_GRAND_TIME, NO_LINK, OUT_OF_RANGE,
+    Answer, BAD_LENGTH, BAD_SETUP, BEYOND_RANGE, DONE, NO_CLOCK, NO_LINK, OUT_OF_RANGE,
     OUT_OF_REACH, OUT_OF_SEQUENCE, TOO_FEW_SAMPLES,
 };
 use crate::frame::{self, Fields, FRAME_LEN, MAC_LEN};
@@ -200,7 +200,7 @@ fn as_grand(time: i128) -> Result<u128, Answer> {
     if rules::fits_grand(time) {
         Ok(time as u128)
     } else {
-        Err(NO_GRAND_TIME)
+        Err(BEYOND_RANGE)
     }
 }
 

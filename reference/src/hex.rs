@@ -6,6 +6,10 @@ pub const NUMBER_DIGITS: usize = 16;
 pub const LOCAL_DIGITS: usize = 12;
 /// The digits of a grand time where it has its full width.
 pub const GRAND_DIGITS: usize = 20;
+/// The digits of PTP seconds, and of seconds of another scale.
+pub const SECONDS_DIGITS: usize = 12;
+/// The digits of a timestamp's nanoseconds.
+pub const NANOSECONDS_DIGITS: usize = 8;
 
 const DIGITS: &[u8; 16] = b"0123456789ABCDEF";
 

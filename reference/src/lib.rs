@@ -12,6 +12,7 @@ pub mod listing;
 pub mod lives;
 pub mod port;
 pub mod program;
+pub mod ptp;
 pub mod replay;
 pub mod rules;
 pub mod samples;

@@ -3,8 +3,9 @@
 use crate::answer::{Answer, BAD_LINE, DONE, OUT_OF_RANGE};
 use crate::bridge::{Calls, Plan, PORTS_MOST};
 use crate::frame::{self, Fields, MAC_LEN, PRECEDENCE_LEN};
-use crate::hex::{self, GRAND_DIGITS, LOCAL_DIGITS};
+use crate::hex::{self, GRAND_DIGITS, LOCAL_DIGITS, NANOSECONDS_DIGITS, SECONDS_DIGITS};
 use crate::program::Program;
+use crate::ptp::{self, Scale, Timestamp};
 use crate::times::grand;
 
 /// The longest line that can have the form, the one with two of the longest byte fields.
@@ -97,6 +98,11 @@ impl<'a> Rest<'a> {
             .map(|bytes| frame::number(&bytes))
     }
 
+    /// Gives the next field as leap seconds, which have a sign.
+    fn leap_seconds(&mut self) -> Option<i16> {
+        self.exactly().map(i16::from_be_bytes)
+    }
+
     /// Gives the next field as the length of an output.
     fn output(&mut self) -> Option<Output> {
         let length = usize::try_from(self.number()?).ok()?;
@@ -166,6 +172,11 @@ impl<C: Calls> Replay<C> {
             b"F" => read(rest, out),
             b"W" => write(rest, out),
             b"B" => better(rest, out),
+            b"X" => export(rest, out),
+            b"I" => import(rest, out),
+            b"G" => gps(rest, out),
+            b"U" => by_leap_seconds(Scale::Utc, rest, out),
+            b"N" => by_leap_seconds(Scale::Ntp, rest, out),
             _ => None,
         }
     }
@@ -270,11 +281,7 @@ impl<C: Calls> Replay<C> {
         let latch = rest.number()?;
         rest.end()?;
         match self.bridge.stamp(latch) {
-            Ok(stamp) => {
-                hex::put_byte(out, DONE);
-                out.push(b' ');
-                hex::put_number(out, stamp, GRAND_DIGITS);
-            }
+            Ok(stamp) => put_done(out, &[(stamp, GRAND_DIGITS)]),
             Err(refusal) => hex::put_byte(out, refusal),
         }
         Some(())
@@ -286,6 +293,15 @@ fn put_two(out: &mut Vec<u8>, first: u8, second: u8) {
     hex::put_byte(out, first);
     out.push(b' ');
     hex::put_byte(out, second);
+}
+
+/// Prints that a call was done and the numbers that it gave, each in its full width.
+fn put_done(out: &mut Vec<u8>, numbers: &[(u128, usize)]) {
+    hex::put_byte(out, DONE);
+    for (number, digits) in numbers {
+        out.push(b' ');
+        hex::put_number(out, *number, *digits);
+    }
 }
 
 /// Prints port and held hop of a chosen clock.
@@ -319,11 +335,7 @@ fn put_fields(out: &mut Vec<u8>, fields: &Fields) {
         (u128::from(fields.that_rx), LOCAL_DIGITS),
         (u128::from(fields.error as u32), 8),
     ];
-    hex::put_byte(out, DONE);
-    for (number, digits) in numbers {
-        out.push(b' ');
-        hex::put_number(out, number, digits);
-    }
+    put_done(out, &numbers);
 }
 
 /// Plays a write of a frame.
@@ -358,4 +370,62 @@ fn better(mut rest: Rest, out: &mut Vec<u8>) -> Option<()> {
     rest.end()?;
     hex::put_bytes(out, frame::better(first, second));
     Some(())
+}
+
+/// Prints the timestamp of a grand time.
+fn export(mut rest: Rest, out: &mut Vec<u8>) -> Option<()> {
+    let seconds = rest.number()?;
+    let fraction = rest.number()?;
+    rest.end()?;
+    match ptp::export(seconds, fraction) {
+        Ok(timestamp) => put_timestamp(out, &timestamp),
+        Err(refusal) => hex::put_byte(out, refusal),
+    }
+    Some(())
+}
+
+/// Prints a timestamp.
+fn put_timestamp(out: &mut Vec<u8>, timestamp: &Timestamp) {
+    let numbers = [
+        (u128::from(timestamp.seconds.count()), SECONDS_DIGITS),
+        (u128::from(timestamp.nanoseconds), NANOSECONDS_DIGITS),
+    ];
+    put_done(out, &numbers);
+}
+
+/// Prints the grand time of a timestamp.
+fn import(mut rest: Rest, out: &mut Vec<u8>) -> Option<()> {
+    let seconds = rest.number()?;
+    let nanoseconds = rest.number()?;
+    rest.end()?;
+    match ptp::import(seconds, nanoseconds) {
+        Ok(grand) => put_done(out, &[(grand, GRAND_DIGITS)]),
+        Err(refusal) => hex::put_byte(out, refusal),
+    }
+    Some(())
+}
+
+/// Prints PTP seconds as those of GPS.
+fn gps(mut rest: Rest, out: &mut Vec<u8>) -> Option<()> {
+    let seconds = rest.number()?;
+    rest.end()?;
+    put_on_scale(out, seconds, Scale::Gps);
+    Some(())
+}
+
+/// Prints PTP seconds as those of a scale that needs the leap seconds.
+fn by_leap_seconds(scale: fn(i16) -> Scale, mut rest: Rest, out: &mut Vec<u8>) -> Option<()> {
+    let seconds = rest.number()?;
+    let leap = rest.leap_seconds()?;
+    rest.end()?;
+    put_on_scale(out, seconds, scale(leap));
+    Some(())
+}
+
+/// Prints PTP seconds as those of a scale, or the refusal.
+fn put_on_scale(out: &mut Vec<u8>, seconds: u64, scale: Scale) {
+    match ptp::on_scale(seconds, scale) {
+        Ok(told) => put_done(out, &[(u128::from(told), SECONDS_DIGITS)]),
+        Err(refusal) => hex::put_byte(out, refusal),
+    }
 }

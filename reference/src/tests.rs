@@ -1,25 +1,31 @@
 //! The figures that are known beforehand.
 
-use crate::answer::{NO_CLOCK, NO_GRAND_TIME, OUT_OF_RANGE, OUT_OF_REACH, TOO_FEW_SAMPLES};
+use crate::answer::{BEYOND_RANGE, NO_CLOCK, OUT_OF_RANGE, OUT_OF_REACH, TOO_FEW_SAMPLES};
 use crate::bridge::{Calls, Listed, Plan};
 use crate::byvalue::{Flat, Handed};
 use crate::listing::Listing;
-use crate::lives::census::Census;
+use crate::lives::census::{Census, TimestampCensus};
 use crate::lives::latches;
 use crate::lives::lives;
+use crate::lives::random::Random;
 use crate::lives::stamped::Stamper;
 use crate::program::Program;
+use crate::ptp::{export, import, on_scale, Scale, NANOSECONDS_END, SECONDS_END};
 use crate::replay::Replay;
 use crate::rules::{
     held_hop, link_delay, parts_per_million, rate, rated, sent_grand, steady, HOP_NONE,
 };
 use crate::samples::{Sample, Samples};
 use crate::stamps::Stamps;
-use crate::times::{distance, moved, next_count, spread, GRAND_END, LOCAL_END};
+use crate::times::{distance, moved, next_count, spread, GRAND_END, LOCAL_END, PART_END};
 
 const SECOND: u128 = 1 << 40;
 /// The greatest distance that is stamped, by document 02's figure.
 const FARTHEST: i128 = 1 << 39;
+/// The last PTP seconds.
+const LAST: u64 = SECONDS_END - 1;
+/// More fractions than any nanosecond has, by document 02's figure.
+const NANOSECOND_MOST: u64 = 1_100;
 
 /// Rates of both signs go to the lower whole number.
 #[test]
@@ -283,12 +289,12 @@ fn stamps_go_across_the_wrap() {
 fn stamps_begin_at_zero() {
     let mut level = Followed::on(&RATE_0, (1 << 34) + 5, 7);
     assert_eq!(level.at(-(1 << 34) - 5), Ok(0));
-    assert_eq!(level.at(-(1 << 34) - 6), Err(NO_GRAND_TIME));
+    assert_eq!(level.at(-(1 << 34) - 6), Err(BEYOND_RANGE));
     let mut faster = Followed::on(&RATE_2, 1 << 38, 7);
     assert_eq!(faster.at(-(1 << 38) + 17), Ok(1));
     assert_eq!(faster.at(-(1 << 38) + 16), Ok(0));
-    assert_eq!(faster.at(-(1 << 38) + 15), Err(NO_GRAND_TIME));
-    assert_eq!(faster.at(-FARTHEST), Err(NO_GRAND_TIME));
+    assert_eq!(faster.at(-(1 << 38) + 15), Err(BEYOND_RANGE));
+    assert_eq!(faster.at(-FARTHEST), Err(BEYOND_RANGE));
     assert_eq!(faster.at(-FARTHEST - 1), Err(OUT_OF_REACH));
 }
 
@@ -297,12 +303,12 @@ fn stamps_begin_at_zero() {
 fn stamps_end_before_the_end() {
     let mut level = Followed::on(&RATE_0, GRAND_END - 1 - (1 << 34), 7);
     assert_eq!(level.at(1 << 34), Ok(GRAND_END - 1));
-    assert_eq!(level.at((1 << 34) + 1), Err(NO_GRAND_TIME));
+    assert_eq!(level.at((1 << 34) + 1), Err(BEYOND_RANGE));
     let mut faster = Followed::on(&RATE_2, GRAND_END - (1 << 38), 7);
     assert_eq!(faster.at((1 << 38) - 17), Ok(GRAND_END - 2));
     assert_eq!(faster.at((1 << 38) - 16), Ok(GRAND_END - 1));
-    assert_eq!(faster.at((1 << 38) - 15), Err(NO_GRAND_TIME));
-    assert_eq!(faster.at(FARTHEST), Err(NO_GRAND_TIME));
+    assert_eq!(faster.at((1 << 38) - 15), Err(BEYOND_RANGE));
+    assert_eq!(faster.at(FARTHEST), Err(BEYOND_RANGE));
     assert_eq!(faster.at(FARTHEST + 1), Err(OUT_OF_REACH));
 }
 
@@ -400,4 +406,236 @@ fn stamps_lie_near_the_line() {
 fn stamp_of(reply: &[u8]) -> Option<i128> {
     let digits = std::str::from_utf8(reply.strip_prefix(b"00 ")?).ok()?;
     i128::from_str_radix(digits, 16).ok()
+}
+
+/// Gives the nanoseconds that a fraction is exported as, with seconds that stay as they are.
+fn exported(fraction: u64) -> u64 {
+    let Ok(timestamp) = export(PART_END - 1, fraction) else {
+        return NANOSECONDS_END;
+    };
+    assert_eq!(timestamp.seconds.count(), PART_END - 1);
+    u64::from(timestamp.nanoseconds)
+}
+
+/// Gives the fraction that nanoseconds are imported as, with seconds that stay as they are.
+fn imported(nanoseconds: u64) -> u64 {
+    let Ok(grand) = import(PART_END - 1, nanoseconds) else {
+        return PART_END;
+    };
+    assert_eq!(grand / SECOND, SECOND - 1);
+    (grand % SECOND) as u64
+}
+
+/// A fraction is exported as the whole nanoseconds in it.
+#[test]
+fn exports_round_down() {
+    for (fraction, nanoseconds) in [
+        (0, 0),
+        (1, 0),
+        (1_099, 0),
+        (1_100, 1),
+        (2_199, 1),
+        (2_200, 2),
+        ((1 << 31) - 1, 1_953_124),
+        (1 << 31, 1_953_125),
+        ((1 << 39) - 1, 499_999_999),
+        (1 << 39, 500_000_000),
+        (PART_END - 1_100, 999_999_998),
+        (PART_END - 1_099, 999_999_999),
+        (PART_END - 1, 999_999_999),
+    ] {
+        assert_eq!(exported(fraction), nanoseconds);
+    }
+}
+
+/// An imported fraction is the first of its nanosecond, which a search from before that nanosecond finds too.
+#[test]
+fn imports_are_the_least() {
+    assert_eq!(imported(0), 0);
+    assert_eq!(imported(1), 1_100);
+    assert_eq!(imported(2), 2_200);
+    assert_eq!(imported(1_953_125), 1 << 31);
+    assert_eq!(imported(999_999_999), PART_END - 1_099);
+    let mut random = Random::new(1);
+    let some = (0..1_000).map(|_| random.below(NANOSECONDS_END));
+    for nanoseconds in [0, 1, 2, 999_999_998, 999_999_999].into_iter().chain(some) {
+        let least = imported(nanoseconds);
+        let before = least.saturating_sub(NANOSECOND_MOST);
+        assert!(before == 0 || exported(before) < nanoseconds);
+        let found = (before..PART_END).find(|fraction| exported(*fraction) >= nanoseconds);
+        assert_eq!(found, Some(least));
+        assert_eq!(exported(least), nanoseconds);
+    }
+}
+
+/// An export undoes an import, and an import after an export is never later and less than 1,100 U earlier.
+#[test]
+fn timestamps_go_there_and_back() {
+    let mut random = Random::new(2);
+    for _ in 0..100_000 {
+        let nanoseconds = random.below(NANOSECONDS_END);
+        assert_eq!(exported(imported(nanoseconds)), nanoseconds);
+        let fraction = random.below(PART_END);
+        let again = imported(exported(fraction));
+        assert!(again <= fraction && fraction - again < NANOSECOND_MOST);
+    }
+}
+
+/// Exports refuse what is no grand time, imports that and nanoseconds from 10^9 on.
+#[test]
+fn timestamps_refuse_what_is_out_of_range() {
+    assert!(export(PART_END - 1, PART_END - 1).is_ok());
+    assert!(import(PART_END - 1, NANOSECONDS_END - 1).is_ok());
+    for beyond in [PART_END, SECONDS_END, u64::MAX] {
+        assert_eq!(export(beyond, 0), Err(OUT_OF_RANGE));
+        assert_eq!(export(0, beyond), Err(OUT_OF_RANGE));
+        assert_eq!(export(beyond, beyond), Err(OUT_OF_RANGE));
+        assert_eq!(import(beyond, 0), Err(OUT_OF_RANGE));
+        assert_eq!(import(beyond, NANOSECONDS_END), Err(OUT_OF_RANGE));
+    }
+    for beyond in [NANOSECONDS_END, (1 << 32) - 1, 1 << 32, u64::MAX] {
+        assert_eq!(import(0, beyond), Err(OUT_OF_RANGE));
+    }
+}
+
+/// GPS begins at its offset and ends with PTP.
+#[test]
+fn gps_keeps_its_range() {
+    assert_eq!(on_scale(0, Scale::Gps), Err(BEYOND_RANGE));
+    assert_eq!(on_scale(315_964_818, Scale::Gps), Err(BEYOND_RANGE));
+    assert_eq!(on_scale(315_964_819, Scale::Gps), Ok(0));
+    assert_eq!(on_scale(315_964_820, Scale::Gps), Ok(1));
+    assert_eq!(on_scale(LAST, Scale::Gps), Ok(LAST - 315_964_819));
+    assert_eq!(on_scale(SECONDS_END, Scale::Gps), Err(OUT_OF_RANGE));
+}
+
+/// UTC begins at its leap seconds, or where they are below zero ends so much earlier.
+#[test]
+fn utc_keeps_its_range() {
+    for leap in [1, 37, i16::MAX] {
+        let first = leap as u64;
+        assert_eq!(on_scale(0, Scale::Utc(leap)), Err(BEYOND_RANGE));
+        assert_eq!(on_scale(first - 1, Scale::Utc(leap)), Err(BEYOND_RANGE));
+        assert_eq!(on_scale(first, Scale::Utc(leap)), Ok(0));
+        assert_eq!(on_scale(first + 1, Scale::Utc(leap)), Ok(1));
+        assert_eq!(on_scale(LAST, Scale::Utc(leap)), Ok(LAST - first));
+    }
+    assert_eq!(on_scale(0, Scale::Utc(0)), Ok(0));
+    assert_eq!(on_scale(LAST, Scale::Utc(0)), Ok(LAST));
+    for (leap, ahead) in [(-1, 1), (-37, 37), (i16::MIN, 32_768)] {
+        assert_eq!(on_scale(0, Scale::Utc(leap)), Ok(ahead));
+        assert_eq!(on_scale(LAST - ahead - 1, Scale::Utc(leap)), Ok(LAST - 1));
+        assert_eq!(on_scale(LAST - ahead, Scale::Utc(leap)), Ok(LAST));
+        assert_eq!(
+            on_scale(LAST - ahead + 1, Scale::Utc(leap)),
+            Err(BEYOND_RANGE)
+        );
+        assert_eq!(on_scale(LAST, Scale::Utc(leap)), Err(BEYOND_RANGE));
+    }
+}
+
+/// NTP never begins below zero, and ends earlier than PTP by what it is ahead.
+#[test]
+fn ntp_keeps_its_range() {
+    for (leap, ahead) in [
+        (i16::MIN, 2_209_021_568),
+        (-1, 2_208_988_801),
+        (0, 2_208_988_800),
+        (37, 2_208_988_763),
+        (i16::MAX, 2_208_956_033),
+    ] {
+        assert_eq!(on_scale(0, Scale::Ntp(leap)), Ok(ahead));
+        assert_eq!(on_scale(LAST - ahead - 1, Scale::Ntp(leap)), Ok(LAST - 1));
+        assert_eq!(on_scale(LAST - ahead, Scale::Ntp(leap)), Ok(LAST));
+        assert_eq!(
+            on_scale(LAST - ahead + 1, Scale::Ntp(leap)),
+            Err(BEYOND_RANGE)
+        );
+        assert_eq!(on_scale(LAST, Scale::Ntp(leap)), Err(BEYOND_RANGE));
+    }
+}
+
+/// PTP seconds out of range are refused first, whether or not the scale would be in range again.
+#[test]
+fn scales_refuse_in_order() {
+    for scale in [
+        Scale::Gps,
+        Scale::Utc(1),
+        Scale::Utc(0),
+        Scale::Utc(-1),
+        Scale::Ntp(37),
+    ] {
+        assert_eq!(on_scale(SECONDS_END, scale), Err(OUT_OF_RANGE));
+        assert_eq!(on_scale(u64::MAX, scale), Err(OUT_OF_RANGE));
+    }
+}
+
+/// The first second of 2017, when the leap seconds became 37, is what it is known as on each scale.
+#[test]
+fn scales_meet_at_a_known_date() {
+    let seconds = 1_483_228_837;
+    assert_eq!(on_scale(seconds, Scale::Gps), Ok(1_167_264_018));
+    assert_eq!(on_scale(seconds, Scale::Utc(37)), Ok(1_483_228_800));
+    assert_eq!(on_scale(seconds, Scale::Ntp(37)), Ok(3_692_217_600));
+}
+
+/// Lines of timestamps and scales have numbers of up to 16 digits and leap seconds of two bytes, and leave the bridge as it was.
+#[test]
+fn lines_of_timestamps_have_their_form() {
+    let bridge = Followed::on(&RATE_2, SECOND, 7).bridge;
+    let mut replay = Replay {
+        bridge: bridge.clone(),
+    };
+    let mut answer = |line: &str| {
+        let mut out = Vec::new();
+        replay.answer(line.as_bytes(), &mut out);
+        assert_eq!(replay.bridge, bridge);
+        String::from_utf8_lossy(&out).into_owned()
+    };
+    assert_eq!(answer("X a 44c"), "00 00000000000A 00000001");
+    assert_eq!(answer("X 10000000000 0"), "02");
+    assert_eq!(
+        answer("I 000000000000000A 3B9AC9FF"),
+        "00 000000000AFFFFFFFBB5"
+    );
+    assert_eq!(answer("I A 3b9aca00"), "02");
+    assert_eq!(answer("G 12D53D94"), "00 000000000001");
+    assert_eq!(answer("G 12D53D92"), "0D");
+    assert_eq!(answer("U 0 8000"), "00 000000008000");
+    assert_eq!(answer("U 0 0001"), "0D");
+    assert_eq!(answer("N 0 7fff"), "00 000083A9FE81");
+    assert_eq!(answer("N FFFFFFFFFFFF 0025"), "0D");
+    for no_line in [
+        "X 0",
+        "X 0 0 0",
+        "X 0 00000000000000000",
+        "I 0",
+        "I 0 -",
+        "G",
+        "G 0 0025",
+        "U 0",
+        "U 0 25",
+        "U 0 -",
+        "U 0 025",
+        "N 0 000025",
+        "N 0 0025 0",
+        "n 0 0025",
+    ] {
+        assert_eq!(answer(no_line), "0E");
+    }
+}
+
+/// The count of timestamps and scales wants every answer of each letter, and 13 at each end where it can be.
+#[test]
+fn census_misses_timestamps() {
+    let mut census = TimestampCensus::default();
+    assert_eq!(census.missing().len(), 19);
+    census.count(b"X 0 0", b"00 000000000000 00000000");
+    census.count(b"G 0", b"0D");
+    census.count(b"N", b"0E");
+    census.count(b"NN 0", b"0E");
+    assert_eq!(census.missing().len(), 16);
+    census.count(b"U 0 0001", b"0D");
+    assert!(census.missing().contains(&String::from("U beyond the end")));
+    assert!(!census.missing().contains(&String::from("U below zero")));
 }

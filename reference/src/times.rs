@@ -44,6 +44,12 @@ pub fn grand(seconds: u64, fraction: u64) -> Option<u128> {
     }
 }
 
+/// Parts a grand time into seconds and fraction.
+pub fn parts(grand: u128) -> (u64, u64) {
+    let fraction = grand % u128::from(PART_END);
+    ((grand >> FRACTION_BITS) as u64, fraction as u64)
+}
+
 /// Gives the frame count that comes after another.
 pub fn next_count(count: u8) -> u8 {
     ((u16::from(count) + 1) % 256) as u8

@@ -4,12 +4,13 @@ use super::extras;
 use super::pen::Pen;
 use super::plans;
 use super::random::Random;
+use super::timestamps;
 use crate::bridge::{OWN, PORTS_MOST};
 use crate::frame::{self, Fields};
 use crate::port::Port;
 use crate::rules::{self, DELAY_MOST, HOP_NONE, SPREAD_LEAST, SPREAD_MOST, TRIP_MOST};
 use crate::samples::Samples;
-use crate::times::{moved, next_count, spread, FRACTION_BITS, GRAND_END, LOCAL_END, PART_END};
+use crate::times::{moved, next_count, parts, spread, GRAND_END, LOCAL_END};
 
 /// The spreads at the limits, to both sides.
 const SPREAD_EDGES: [u64; 6] = [
@@ -78,6 +79,7 @@ impl Plans {
             33..=59 => extras::ask(pen),
             60..=61 => extras::any_call(pen),
             62..=91 => extras::edge_stamp(pen),
+            92..=96 => timestamps::ask(pen),
             _ => {}
         }
     }
@@ -301,8 +303,7 @@ fn aim_own(pen: &mut Pen) {
     let grand = aim_grand(random, &own.samples, before);
     let count = aim_count(random, own.last.map(|heard| heard.count));
     let now = moved(before, aim_way(random, 0, 0));
-    let seconds = (grand >> FRACTION_BITS) as u64;
-    let fraction = (grand % u128::from(PART_END)) as u64;
+    let (seconds, fraction) = parts(grand);
     pen.own_clock(count, seconds, fraction, now);
     if pen.random.often(200) {
         pen.drift(OWN);

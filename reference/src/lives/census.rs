@@ -1,19 +1,20 @@
-//! Counts how often each call gave each answer, and how the frames that were taken came by their held hops.
+//! Counts how often each call gave each answer, how the frames that were taken came by their held hops, and where scales left their range.
 
 use super::latches;
 use super::pen::answer_of;
 use crate::answer::{
-    Answer, BAD_LINE, DONE, NO_CLOCK, NO_GRAND_TIME, OUT_OF_RANGE, OUT_OF_REACH, TOO_FEW_SAMPLES,
+    Answer, BAD_LINE, BEYOND_RANGE, DONE, NO_CLOCK, OUT_OF_RANGE, OUT_OF_REACH, TOO_FEW_SAMPLES,
 };
 use crate::bridge::Listed;
 use crate::frame::AT_HOP;
 use crate::hex;
+use crate::ptp::SECONDS_END;
 use crate::rules::HOP_NONE;
 use crate::times::{distance, is_local};
 use std::cmp::Ordering;
 use std::fmt;
 
-/// The letters of the calls whose answers are numbers, but for stamps, which are counted by themselves.
+/// The letters of the calls whose answers are numbers, but for stamps, timestamps and scales, which are counted by themselves.
 const LETTERS: [u8; 9] = *b"SLORATDFW";
 /// How many answers there are.
 const ANSWERS: usize = BAD_LINE as usize + 1;
@@ -32,11 +33,11 @@ const STAMPS_WANTED: [(usize, Answer); 9] = [
     (NOWHERE, TOO_FEW_SAMPLES),
     (BEFORE, DONE),
     (BEFORE, OUT_OF_REACH),
-    (BEFORE, NO_GRAND_TIME),
+    (BEFORE, BEYOND_RANGE),
     (AT, DONE),
     (AFTER, DONE),
     (AFTER, OUT_OF_REACH),
-    (AFTER, NO_GRAND_TIME),
+    (AFTER, BEYOND_RANGE),
 ];
 
 /// Counts of the answers to latches by the side on which they lie.
@@ -146,6 +147,85 @@ fn way(chosen: u8, hop: u8) -> usize {
     }
 }
 
+/// The letters of the lines of timestamps and scales.
+const TIMESTAMP_LETTERS: [u8; 5] = *b"XIGUN";
+/// What each of them should answer at the least.
+const TIMESTAMP_WANTED: [Answer; 3] = [DONE, OUT_OF_RANGE, BAD_LINE];
+/// Half of the PTP seconds: a scale that leaves its range leaves it below zero for those before, beyond the end for those after.
+const SECONDS_HALF: u64 = SECONDS_END / 2;
+const BELOW: &str = "below zero";
+const BEYOND: &str = "beyond the end";
+/// The ends at which scales can leave their range: GPS is behind PTP, NTP ahead of it, and UTC either.
+const ENDS_WANTED: [(u8, &str); 4] = [(b'G', BELOW), (b'U', BELOW), (b'U', BEYOND), (b'N', BEYOND)];
+
+/// Counts of the answers to lines of timestamps and scales, and of the ends at which scales left their range.
+#[derive(Default)]
+pub struct TimestampCensus {
+    counts: [[u64; ANSWERS]; TIMESTAMP_LETTERS.len()],
+    ends: [u64; ENDS_WANTED.len()],
+}
+
+impl TimestampCensus {
+    /// Counts a line with its answer, where its first field is one of the letters, though it may have no form.
+    pub fn count(&mut self, line: &[u8], reply: &[u8]) {
+        let mut fields = line.split(|letter| *letter == b' ');
+        let Some(&[letter]) = fields.next() else {
+            return;
+        };
+        let Some(row) = TIMESTAMP_LETTERS.iter().position(|known| *known == letter) else {
+            return;
+        };
+        let answer = answer_of(reply);
+        self.counts[row][usize::from(answer)] += 1;
+        if answer == BEYOND_RANGE {
+            self.count_end(letter, fields.next().and_then(hex::number));
+        }
+    }
+
+    /// Counts the end at which a scale left its range, by the PTP seconds that it was asked for.
+    fn count_end(&mut self, letter: u8, seconds: Option<u64>) {
+        let end = match seconds {
+            Some(..SECONDS_HALF) => BELOW,
+            _ => BEYOND,
+        };
+        if let Some(place) = ENDS_WANTED.iter().position(|known| *known == (letter, end)) {
+            self.ends[place] += 1;
+        }
+    }
+
+    /// Gives the wanted answers and ends that were never seen, each with its letter.
+    pub fn missing(&self) -> Vec<String> {
+        let mut missing = Vec::new();
+        for (letter, row) in TIMESTAMP_LETTERS.iter().zip(&self.counts) {
+            for answer in TIMESTAMP_WANTED {
+                if row[usize::from(answer)] == 0 {
+                    missing.push(format!("{} {answer}", char::from(*letter)));
+                }
+            }
+        }
+        for ((letter, end), count) in ENDS_WANTED.iter().zip(self.ends) {
+            if count == 0 {
+                missing.push(format!("{} {end}", char::from(*letter)));
+            }
+        }
+        missing
+    }
+}
+
+impl fmt::Display for TimestampCensus {
+    /// Prints a row for each letter with a column for each answer, and a row of ends.
+    fn fmt(&self, out: &mut fmt::Formatter) -> fmt::Result {
+        for (letter, row) in TIMESTAMP_LETTERS.iter().zip(&self.counts) {
+            put_row(out, &char::from(*letter).to_string(), row)?;
+        }
+        write!(out, "scales left")?;
+        for ((letter, end), count) in ENDS_WANTED.iter().zip(self.ends) {
+            write!(out, ", {} {end} {count}", char::from(*letter))?;
+        }
+        writeln!(out, "\ntimestamps missing {:?}", self.missing())
+    }
+}
+
 /// Prints a row of numbers.
 fn put_row<T: fmt::Display>(out: &mut fmt::Formatter, name: &str, row: &[T]) -> fmt::Result {
     write!(out, "{name:<9}")?;
@@ -169,6 +249,7 @@ pub struct Census {
     no_parts: u64,
     stamps: StampCensus,
     hops: HopCensus,
+    timestamps: TimestampCensus,
 }
 
 impl Census {
@@ -176,6 +257,7 @@ impl Census {
     pub fn count(&mut self, line: &[u8], reply: &[u8], bridge: &Listed) {
         self.lines += 1;
         self.hops.count(line, reply, bridge);
+        self.timestamps.count(line, reply);
         if reply == b"0E" {
             self.bad += 1;
             return;
@@ -217,6 +299,7 @@ impl Census {
         self.missing().is_empty()
             && self.stamps.missing().is_empty()
             && self.hops.missing().is_empty()
+            && self.timestamps.missing().is_empty()
             && self.stamps.counts[NOWHERE][usize::from(OUT_OF_RANGE)] > 0
     }
 
@@ -236,7 +319,7 @@ impl fmt::Display for Census {
         for (letter, row) in LETTERS.iter().zip(&self.counts) {
             put_row(out, &char::from(*letter).to_string(), row)?;
         }
-        write!(out, "{}", self.stamps)?;
+        write!(out, "{}{}", self.timestamps, self.stamps)?;
         writeln!(
             out,
             "C    none {}, own {}, port {}",

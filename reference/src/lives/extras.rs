@@ -5,6 +5,7 @@ use super::pen::Pen;
 use super::plans;
 use super::random::Random;
 use super::spoil;
+use super::timestamps;
 use crate::frame::{self, Fields, FRAME_LEN};
 use crate::replay::BYTES_MOST;
 use crate::rules::{self, REACH_END};
@@ -265,7 +266,7 @@ pub fn wander(pen: &mut Pen) {
 pub fn any_call(pen: &mut Pen) {
     let port = any_port(pen);
     let time = any_local(&mut pen.random);
-    match pen.random.below(13) {
+    match pen.random.below(14) {
         0 => {
             let beyond = 1_u64 << pen.bridge().ports.len();
             let chance = pen.random.bits() >> pen.random.below(9);
@@ -297,6 +298,7 @@ pub fn any_call(pen: &mut Pen) {
         10 => {
             pen.stamp(time);
         }
+        11 => timestamps::ask(pen),
         _ => play_frames(pen),
     }
 }

@@ -8,9 +8,10 @@ pub mod listed;
 mod network;
 mod pen;
 mod plans;
-mod random;
+pub(crate) mod random;
 mod spoil;
 pub mod stamped;
+mod timestamps;
 
 use crate::bridge::Listed;
 use pen::Pen;

@@ -5,11 +5,12 @@ use super::pen::Pen;
 use super::plans;
 use super::random::Random;
 use super::spoil;
-use crate::answer::{DONE, NO_CLOCK, NO_GRAND_TIME};
+use super::timestamps;
+use crate::answer::{BEYOND_RANGE, DONE, NO_CLOCK};
 use crate::bridge::Plan;
 use crate::frame::{self, Fields};
 use crate::port::Heard;
-use crate::times::{next_count, FRACTION_BITS, GRAND_END, LOCAL_END, PART_END};
+use crate::times::{next_count, parts, GRAND_END, LOCAL_END, PART_END};
 
 /// What a drift of one whole is counted as.
 const DRIFT_ONE: i128 = 1 << 40;
@@ -311,10 +312,7 @@ impl Network {
     fn read_own(&mut self, pen: &mut Pen) {
         let now = self.soon(&mut pen.random, 2);
         let grand = self.masters[0].clock.grand(self.own_before);
-        let (mut seconds, mut fraction) = (
-            (grand >> FRACTION_BITS) as u64,
-            (grand % u128::from(PART_END)) as u64,
-        );
+        let (mut seconds, mut fraction) = parts(grand);
         self.own_count = next_count(self.own_count);
         let mut time = self.clock.local(now);
         match pen.random.below(200) {
@@ -343,7 +341,7 @@ impl Network {
                 neighbour.hear(&fields, now + neighbour.link);
             }
         }
-        if (NO_CLOCK..=NO_GRAND_TIME).contains(&answer) {
+        if (NO_CLOCK..=BEYOND_RANGE).contains(&answer) {
             neighbour.bridge_left = None;
         }
     }
@@ -373,6 +371,7 @@ impl Network {
             }
             45..=64 => extras::ask(pen),
             65..=94 => extras::edge_stamp(pen),
+            95..=98 => timestamps::ask(pen),
             _ => {}
         }
     }

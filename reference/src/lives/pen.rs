@@ -8,6 +8,7 @@ use crate::bridge::{Bridge, Listed, Plan};
 use crate::frame::{self, Fields, FRAME_LEN};
 use crate::hex;
 use crate::program::Program;
+use crate::ptp::Scale;
 use crate::replay::Replay;
 use std::io;
 
@@ -15,6 +16,10 @@ use std::io;
 const SPOILED: u64 = 8;
 /// In a thousand setups, how many are led by a copy with one field changed.
 const SPOILED_SETUPS: u64 = 500;
+/// In a thousand lines of timestamps and scales, how many more are led by a spoiled copy, since there are few of them.
+const SPOILED_TIMESTAMPS: u64 = 60;
+/// In a thousand lines with leap seconds, how many are led by a copy with these changed.
+const SPOILED_LEAPS: u64 = 60;
 /// In a thousand numbers, how many are written with zeros before them.
 const PADDED: u64 = 40;
 /// In a thousand fields, how many are written with small letters.
@@ -306,6 +311,48 @@ impl<'s> Pen<'s> {
         self.letter(b'B');
         self.bytes(first);
         self.bytes(second);
+        self.play()
+    }
+
+    /// Writes an export of a grand time.
+    pub fn export(&mut self, seconds: u64, fraction: u64) -> Answer {
+        self.letter(b'X');
+        self.number(seconds);
+        self.number(fraction);
+        self.play_timestamp()
+    }
+
+    /// Writes an import of a timestamp.
+    pub fn import(&mut self, seconds: u64, nanoseconds: u64) -> Answer {
+        self.letter(b'I');
+        self.number(seconds);
+        self.number(nanoseconds);
+        self.play_timestamp()
+    }
+
+    /// Writes PTP seconds to be told on a scale.
+    pub fn on_scale(&mut self, seconds: u64, scale: Scale) -> Answer {
+        let (letter, leap) = match scale {
+            Scale::Gps => (b'G', None),
+            Scale::Utc(leap) => (b'U', Some(leap)),
+            Scale::Ntp(leap) => (b'N', Some(leap)),
+        };
+        self.letter(letter);
+        self.number(seconds);
+        if let Some(leap) = leap {
+            self.bytes(&leap.to_be_bytes());
+            if self.random.often(SPOILED_LEAPS) {
+                self.lead(spoil::leap_seconds);
+            }
+        }
+        self.play_timestamp()
+    }
+
+    /// Plays a line of timestamps or scales, perhaps after a spoiled copy.
+    fn play_timestamp(&mut self) -> Answer {
+        if self.random.often(SPOILED_TIMESTAMPS) {
+            self.lead(spoil::line);
+        }
         self.play()
     }
 }

@@ -15,7 +15,7 @@ const NONSENSE_LONG: u64 = 70_000;
 /// What a line may wrongly contain.
 const STRANGE: &[u8] = b"\0\t\r gGmM-dDxX0fF+.#\x0B\x7F\x80\xC3\xFF";
 /// The letters of the calls and some others.
-const LETTERS: &[u8] = b"SLORACTDFWBslxZEM1-";
+const LETTERS: &[u8] = b"SLORACTDFWBslxZEM1-XIGUN";
 
 /// Spoils a line, though not always so that it loses its form.
 pub fn line(random: &mut Random, line: &mut Vec<u8>) {
@@ -72,6 +72,25 @@ pub fn setup(random: &mut Random, line: &mut Vec<u8>) {
     ];
     let place = random.pick(&[1, 2, 3, 4, 4, 4, 5, 5, 5, 6, 6, 7, 8, 11, 14, 14]);
     replace_field(line, place, random.pick(&words));
+}
+
+/// Changes the leap seconds of a line, mostly so that they are not two bytes.
+pub fn leap_seconds(random: &mut Random, line: &mut Vec<u8>) {
+    let words: [&[u8]; 12] = [
+        b"",
+        b"-",
+        b"0",
+        b"25",
+        b"025",
+        b"0025",
+        b"00025",
+        b"000025",
+        b"-025",
+        b"00 25",
+        b"002g",
+        b"0000000000000025",
+    ];
+    replace_field(line, 2, random.pick(&words));
 }
 
 /// Doubles the first space of a line.
