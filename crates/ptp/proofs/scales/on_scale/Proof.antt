@@ -64,7 +64,7 @@ pub on-scale-spec : {M : Type 1} → statement M
 on-scale-spec =
     tie.close
     (tie.spec
-    (λ c. scaled-out _ _ (c .if1 .taken))
+    (λ c. scaled-out _ _ (omega (arith, c .if1 .taken)))
     (λ c κs. search needs)
     add-requires
     (λ c. leap-fits _ (c .before .before .before .before .fits .leap))
@@ -72,5 +72,5 @@ on-scale-spec =
     (λ c κs. search needs)
     under
     (λ c κs. search needs)
-    (λ c. scaled-beyond _ _ _ (search needs) (size (c .before)) (c .if3 .taken))
-    (λ c. scaled-at _ _ _ (search needs) (size (c .before)) (c .if3 .left)))
+    (λ c. scaled-beyond _ _ _ (search needs) (size (c .before)) (omega (arith, c .if3 .taken)))
+    (λ c. scaled-at _ _ _ (search needs) (size (c .before)) (omega (arith, c .if3 .left))))
