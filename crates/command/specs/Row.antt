@@ -57,7 +57,7 @@ ERROR = EXACTLY + 4
 
 -- ---- rows
 
--- the row of each letter; nothing follows C. The other letters are those of an analyser's lines, or of none
+-- the row of each letter; nothing follows C. The letters of an analyser's lines come last, and a letter that no call has
 unfoldable pub rowOf : ℕ → List ℕ
 rowOf letter =
     cond (eqb letter letterS) (row (BYTE ∷ ADDRESS ∷ PRECEDENCE ∷ FLAG ∷ NUMBER-OR-DEFAULT ∷ NUMBER-OR-DEFAULT ∷ replicate 8 DELAY-OR-MEASURED))

@@ -18,11 +18,11 @@ const PRECEDENCE: u8 = EXACTLY + 13;
 const ERROR: u8 = EXACTLY + 4;
 
 // A number or the default, a delay or that it is measured.
-const OR_DEFAULT: u8 = fields::kind::NUMBER_OR_DEFAULT;
+const OR_DEFAULT: u8 = kind::NUMBER_OR_DEFAULT;
 
-const DELAY: u8 = fields::kind::DELAY_OR_MEASURED;
+const DELAY: u8 = kind::DELAY_OR_MEASURED;
 
-// The row of a letter; nothing follows C. A letter that is none of the bridge's is one of the analyser's lines, or of none.
+// The row of a letter; nothing follows C. The letters of an analyser's lines come last, and a letter that no call has.
 pub fn row(letter: u8) -> [u8; 15]
     ensures { λ r. ⌜ r ≡ rowOf letter ⌝ }
 {

@@ -114,6 +114,8 @@ utcEdges =
     ∷ utc (2 ^ 48) leastLeap (Utc.Refused 2)
     ∷ utc 32766 mostLeap (Utc.Refused 13)
     ∷ utc 32767 mostLeap (Utc.Second (record { 0 = 0 }))
+    ∷ utc (2 ^ 48 - 1) mostLeap (Utc.Second (record { 0 = 2 ^ 48 - 32768 }))
+    ∷ utc (2 ^ 48) mostLeap (Utc.Refused 2)
     ∷ []
 
 abbrev ntp : ℕ → ℤ → ToNtp → Edge ToNtp

@@ -32,7 +32,7 @@ exportOf g = cond (ltb (g .0) second && ltb (g .1) second) (Exports.At (ptpTimeO
 
 -- ---- inward
 
--- the fraction of a nanosecond: nanosecond × 2^40 / 10^9, rounded up; `import-least` says that this is the least one whose nanosecond it is
+-- the least fraction whose nanosecond this is: nanosecond × 2^40 / 10^9, rounded up; `fraction-least` says that it is the least
 unfoldable pub fractionOf : ℕ → ℕ
 fractionOf nanosecond = (nanosecond * second + (billion - 1)) / billion
 

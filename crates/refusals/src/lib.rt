@@ -37,7 +37,7 @@ pub const FEW_SAMPLES: u8 = 11;
 // The departure lies too long after the newer sample.
 pub const TOO_LATE: u8 = 12;
 
-// Grand time would leave its range.
+// A grand time, or a second of a scale, would leave its range.
 pub const BEYOND_RANGE: u8 = 13;
 
 // A text line that has not the form of one.
