@@ -16,6 +16,7 @@ use Rattle.fields.specs.declared.Form.{Form}
 use Rattle.ptp.specs.Timestamp.{exportOf, importOf}
 use Rattle.ptp.specs.Scale.{gpsOf, utcOf, ntpOf}
 use Rattle.ptp.specs.declared.PtpSecond.{PtpSecond}
+use Rattle.ptp.specs.declared.PtpTime.{PtpTime}
 use Rattle.ptp.specs.declared.Exported.{Exported}
 use Rattle.ptp.specs.declared.Exported.the-variants as Exports
 use Rattle.ptp.specs.declared.Imported.{Imported}
@@ -72,8 +73,11 @@ leapIn s = toZ w16 (numberAt s 0 2)
 -- ---- answers
 
 -- a PTP time: seconds in 6 bytes, nanoseconds in 4
+abbrev pub timestampText : PtpTime → List ℕ
+timestampText t = columnsText (1 ∷ 0 ∷ 6 ∷ 0 ∷ 4 ∷ 0 ∷ []) (done ∷ space ∷ t .0 .0 ∷ space ∷ t .1 ∷ newline ∷ [])
+
 abbrev pub exportText : Exported → List ℕ
-exportText (Exports.At t) = columnsText (1 ∷ 0 ∷ 6 ∷ 0 ∷ 4 ∷ 0 ∷ []) (done ∷ space ∷ t .0 .0 ∷ space ∷ t .1 ∷ newline ∷ [])
+exportText (Exports.At t) = timestampText t
 exportText (Exports.Refused k) = line1 k
 
 abbrev pub importText : Imported → List ℕ

@@ -6,7 +6,7 @@ ghost use Rattle.ptp.specs.Timestamp.{exportOf, importOf};
 ghost use Rattle.ptp.specs.Scale.{gpsOf, utcOf, ntpOf};
 ghost use Rattle.fields.specs.Form.{numberIn};
 ghost use Rattle.columns.specs.Columns.{longestAnswer, Prints};
-ghost use Rattle.analyser.specs.Line.{analyserRow, secondIn, leapIn, exportText, importText, secondText, gpsText, utcText, ntpText, analyserText};
+ghost use Rattle.analyser.specs.Line.{analyserRow, secondIn, leapIn, timestampText, exportText, importText, secondText, gpsText, utcText, ntpText, analyserText};
 use columns::BYTE;
 use columns::CHARACTER;
 use columns::NEWLINE;
@@ -34,10 +34,10 @@ const LEAP_AT: usize = 0;
 
 const LEAP: u8 = kind::EXACTLY + 2;
 
-// The first number of 16 bits that stands for one below zero, and how many there are in all.
-const SIGN: u64 = 0x8000;
+// How many values those bytes have, and the first of them that stands for a number below zero.
+const LEAP_VALUES: u64 = 0x1_0000;
 
-const NUMBERS: u64 = 0x1_0000;
+const LEAP_BELOW_ZERO: u64 = 0x8000;
 
 // The bytes of a second and of a nanosecond.
 const SECOND: usize = 6;
@@ -63,10 +63,30 @@ fn leap(b: [u8; 256]) -> i16
     ensures { λ r. ⌜ r ≡ leapIn b ⌝ }
 {
     let bits = digits::number_at(&b, LEAP_AT, LEAP_BYTES);
-    if bits < SIGN {
+    if bits < LEAP_BELOW_ZERO {
         return bits as i16;
     }
-    whole::difference(bits, NUMBERS) as i16
+    whole::difference(bits, LEAP_VALUES) as i16
+}
+
+// Prints a PTP time after the answer 0.
+fn timestamp(time: PtpTime, out: &mut [u8]) -> usize
+    requires { ⌜ longestAnswer ≤ length (now out) ⌝ }
+    ensures { λ r. ⌜ Prints (timestampText time) r (now (out .entry)) (now (out .exit)) ⌝ }
+{
+    let second = time.0;
+    columns::line(
+        out,
+        &[BYTE, CHARACTER, SECOND, CHARACTER, NANOSECOND, CHARACTER],
+        &[
+            refusals::DONE as u64,
+            SPACE,
+            second.0,
+            SPACE,
+            time.1,
+            NEWLINE,
+        ],
+    )
 }
 
 // `X sec frac`.
@@ -75,21 +95,7 @@ fn export(form: Form, out: &mut [u8]) -> usize
     ensures { λ r. ⌜ Prints (exportText (exportOf (record { 0 = numberIn form 0; 1 = numberIn form 1 }))) r (now (out .entry)) (now (out .exit)) ⌝ }
 {
     match ptp::export(GrandTime(form.numbers[0], form.numbers[1])) {
-        Exported::At(time) => {
-            let second = time.0;
-            columns::line(
-                out,
-                &[BYTE, CHARACTER, SECOND, CHARACTER, NANOSECOND, CHARACTER],
-                &[
-                    refusals::DONE as u64,
-                    SPACE,
-                    second.0,
-                    SPACE,
-                    time.1,
-                    NEWLINE,
-                ],
-            )
-        }
+        Exported::At(time) => timestamp(time, out),
         Exported::Refused(no) => columns::one(out, no),
     }
 }

@@ -6,8 +6,8 @@ use Rattle.analyser.proofs.export.Tie as tie
 found : tie.Need-returns
 found c =
     let p = c .before .before in
-    let v = p .before .before .before .before .before .before in
-    rw (← v .before .before .export .ensures, v .time .given .1) (p .line .ensures)
+    let v = p .before .before .before in
+    rw (← v .before .before .export .ensures, v .time .given .1) (p .timestamp .ensures)
 
 refused : tie.Need-returns-2
 refused c =
@@ -22,9 +22,6 @@ export-spec =
     (λ c. search needs)
     (λ c. search needs)
     (λ c κs. search needs)
-    (λ c. search needs)
-    (λ c. search needs)
-    (λ c. search needs)
     (λ c. search needs)
     (λ c κs. search needs)
     (λ c. search needs)
