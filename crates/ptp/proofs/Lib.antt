@@ -1,3 +1,4 @@
+pub mod PromiseLaws
 pub mod TimestampLaws
 pub mod Trips
 pub mod ScaleLaws

@@ -1,6 +1,7 @@
 -- Laws of scales: the second that a whole number is, the answers, and the way back.
-use mathlib.Core.Path.{_≡_, refl, sym, ap, _∙_, subst}
+use mathlib.Core.Path.{_≡_, refl, sym, ap, _∙_}
 use mathlib.Core.Logic.{_⊎_, inl, inr}
+use mathlib.Core.Option.{some}
 use Prim.Native.Nat.{ℕ, suc, _+_, _^_, _<_, _≤_}
 use native.Mathlib.Omega.{arith}
 use borrow.Author.Tests.{lt-ltb, le-ltb, ltb-true, ltb-false}
@@ -10,8 +11,8 @@ use mir.Syntax.{w16, w64}
 use mir.Val.{SFits, toZ, ofZ}
 use mir.ValLaws.{toZ-ofZ}
 use Rattle.refusals.specs.Refusals.{outOfRange, beyondRange}
-use Rattle.ptp.specs.Scale.{secondsEnd, secondOf, scaledOf, gpsOffset, asGps, gpsOf, asUtc, utcOf, ntpOffset, asNtp, ntpOf}
-use Rattle.ptp.specs.Demands.{SecondAnswers, ScaleAnswers, fromGps, fromUtc, fromNtp}
+use Rattle.ptp.specs.Scale.{secondsEnd, secondOf, scaledOf, gpsOffset, asGps, gpsOf, asUtc, utcOf, ntpOffset, asNtp, ntpOf, gpsNo, gpsSecond, utcNo, utcSecond, ntpNo, ntpSecond}
+use Rattle.ptp.specs.Demands.{AnswerParts, SecondAnswers, ScaleAnswers, gpsParts, utcParts, ntpParts, fromGps, fromUtc, fromNtp}
 use Rattle.ptp.specs.declared.PtpSecond.{PtpSecond}
 use Rattle.ptp.specs.declared.scales.Scaled.{Scaled}
 use Rattle.ptp.specs.declared.scales.Scaled.the-variants.{Second, Refused}
@@ -76,72 +77,60 @@ leap-is z f = got (leap-fits z f .sfits) (leap-same z f)
 
 -- ---- the answers, in their order
 
-second-answers : (z : ℤ) → SecondAnswers Refused Second z (secondOf z)
-second-answers (pos n) =
-    if-when (SecondAnswers Refused Second (pos n)) (ltb n secondsEnd) (λ e. inr (n, refl, ltb-true _ _ e, refl))
-    (λ e. inl (refl, λ m q. omega (arith, ltb-false n secondsEnd e, ap natAbs q)))
-second-answers (negsuc n) = inl (refl, λ m q. absurd (pos-ne-negsuc m n (sym q)))
+-- the answers of a scale, whose type has a refusal and a second for those of `Scaled`
+module _ {A S : Type 0} (parts : AnswerParts A S) (f : Scaled → A) (at : ℕ → S)
+    (refused : (k : ℕ) → parts .number (f (Refused k)) ≡ k)
+    (taken : (n : ℕ) → (parts .number (f (Second n)) ≡ 0) × (parts .second (f (Second n)) ≡ some (at n)) × (parts .count (at n) ≡ n)) where
+  second-answers : (z : ℤ) → SecondAnswers parts z (f (secondOf z))
+  second-answers (pos n) =
+      let (d, q, c) = taken n in
+      if-when (λ (r : Scaled). SecondAnswers parts (pos n) (f r)) (ltb n secondsEnd)
+      (λ e. inr (d, (at n, q, omega (arith, c, ltb-true n secondsEnd e), ap pos (sym c))))
+      (λ e. inl (refused 13, λ m q. omega (arith, ltb-false n secondsEnd e, ap natAbs q)))
+  second-answers (negsuc n) = inl (refused 13, λ m q. absurd (pos-ne-negsuc m n (sym q)))
 
-scaled-answers : (ptp : ℕ) (z : ℤ) → ScaleAnswers Refused Second ptp z (scaledOf ptp z)
-unfolding scaledOf
-scaled-answers ptp z = if-when (ScaleAnswers Refused Second ptp z) (ltb ptp secondsEnd) (λ e. inr (ltb-true _ _ e, second-answers z)) (λ e. inl (refl, ltb-false _ _ e))
+  scale-answers : (ptp : ℕ) (z : ℤ) → ScaleAnswers parts ptp z (f (scaledOf ptp z))
+  unfolding scaledOf
+  scale-answers ptp z =
+      if-when (λ (r : Scaled). ScaleAnswers parts ptp z (f r)) (ltb ptp secondsEnd) (λ e. inr (ltb-true _ _ e, second-answers z))
+      (λ e. inl (refused 2, ltb-false _ _ e))
 
--- the same of an answer that stands for this one
-answers-as : {A : Type 0} (f : Scaled → A) (ptp : ℕ) (z : ℤ) → ScaleAnswers (λ k. f (Refused k)) (λ n. f (Second n)) ptp z (f (scaledOf ptp z))
-answers-as f ptp z = go (scaled-answers ptp z)
-  where
-    go : ScaleAnswers Refused Second ptp z (scaledOf ptp z) → ScaleAnswers (λ k. f (Refused k)) (λ n. f (Second n)) ptp z (f (scaledOf ptp z))
-    go (inl (e, h)) = inl (ap f e, h)
-    go (inr (h, inl (e, g))) = inr (h, inl (ap f e, g))
-    go (inr (h, inr (n, e, k, q))) = inr (h, inr (n, ap f e, k, q))
-
-pub gps-answers : (s : PtpSecond) → ScaleAnswers Gps.Refused (λ n. Gps.Second (record { 0 = n })) (s .0) (pos (s .0) -ℤ pos gpsOffset) (gpsOf s)
+pub gps-answers : (s : PtpSecond) → ScaleAnswers gpsParts (s .0) (pos (s .0) -ℤ pos gpsOffset) (gpsOf s)
 unfolding gpsOf
-gps-answers s = answers-as asGps (s .0) (pos (s .0) -ℤ pos gpsOffset)
+gps-answers s = scale-answers gpsParts asGps (λ n. record { 0 = n }) (λ k. refl) (λ n. (refl, refl, refl)) (s .0) (pos (s .0) -ℤ pos gpsOffset)
 
-pub utc-answers : (s : PtpSecond) (leap : ℤ) → ScaleAnswers Utc.Refused (λ n. Utc.Second (record { 0 = n })) (s .0) (pos (s .0) -ℤ leap) (utcOf s leap)
+pub utc-answers : (s : PtpSecond) (leap : ℤ) → ScaleAnswers utcParts (s .0) (pos (s .0) -ℤ leap) (utcOf s leap)
 unfolding utcOf
-utc-answers s leap = answers-as asUtc (s .0) (pos (s .0) -ℤ leap)
+utc-answers s leap = scale-answers utcParts asUtc (λ n. record { 0 = n }) (λ k. refl) (λ n. (refl, refl, refl)) (s .0) (pos (s .0) -ℤ leap)
 
-pub ntp-answers : (s : PtpSecond) (leap : ℤ) → ScaleAnswers Ntp.Refused (λ n. Ntp.Second (record { 0 = n })) (s .0) (pos (s .0) +ℤ pos ntpOffset -ℤ leap) (ntpOf s leap)
+pub ntp-answers : (s : PtpSecond) (leap : ℤ) → ScaleAnswers ntpParts (s .0) (pos (s .0) +ℤ pos ntpOffset -ℤ leap) (ntpOf s leap)
 unfolding ntpOf
-ntp-answers s leap = answers-as asNtp (s .0) (pos (s .0) +ℤ pos ntpOffset -ℤ leap)
+ntp-answers s leap = scale-answers ntpParts asNtp (λ n. record { 0 = n }) (λ k. refl) (λ n. (refl, refl, refl)) (s .0) (pos (s .0) +ℤ pos ntpOffset -ℤ leap)
 
 -- ---- the way back
 
--- a scale that gives a second gives that number
-scaled-second : (ptp : ℕ) (z : ℤ) (n : ℕ) → scaledOf ptp z ≡ Second n → pos n ≡ z
-scaled-second ptp z n e = go (subst (ScaleAnswers Refused Second ptp z) e (scaled-answers ptp z))
-  where
-    go : ScaleAnswers Refused Second ptp z (Second n) → pos n ≡ z
-    go (inl (q, h)) = let clash : _≡_ {A = ℕ} 0 1 = cc in absurd (omega arith)
-    go (inr (h, inl (q, f))) = let clash : _≡_ {A = ℕ} 0 1 = cc in absurd (omega arith)
-    go (inr (h, inr (m, q, k, l))) = let same : n ≡ m = cc in ap pos same ∙ sym l
-
-second-of-gps : (r : Scaled) (g : GpsSecond) → asGps r ≡ Gps.Second g → r ≡ Second (g .0)
-second-of-gps (Second n) g e = let same : record { 0 = n } ≡ g = cc in ap (λ (x : GpsSecond). Second (x .0)) same
-second-of-gps (Refused k) g e = let clash : _≡_ {A = ℕ} 0 1 = cc in absurd (omega arith)
-
-second-of-utc : (r : Scaled) (u : UtcSecond) → asUtc r ≡ Utc.Second u → r ≡ Second (u .0)
-second-of-utc (Second n) u e = let same : record { 0 = n } ≡ u = cc in ap (λ (x : UtcSecond). Second (x .0)) same
-second-of-utc (Refused k) u e = let clash : _≡_ {A = ℕ} 0 1 = cc in absurd (omega arith)
-
-second-of-ntp : (r : Scaled) (n : NtpSecond) → asNtp r ≡ Ntp.Second n → r ≡ Second (n .0)
-second-of-ntp (Second m) n e = let same : record { 0 = m } ≡ n = cc in ap (λ (x : NtpSecond). Second (x .0)) same
-second-of-ntp (Refused k) n e = let clash : _≡_ {A = ℕ} 0 1 = cc in absurd (omega arith)
+-- a scale that answers with a second answers with that number
+scale-second : {A S : Type 0} (parts : AnswerParts A S) (ptp : ℕ) (z : ℤ) (a : A) (s : S) → ScaleAnswers parts ptp z a
+    → parts .number a ≡ 0 → parts .second a ≡ some s → pos (parts .count s) ≡ z
+scale-second parts ptp z a s (inl (k, h)) d q = absurd (omega (arith, k, d))
+scale-second parts ptp z a s (inr (h, inl (k, g))) d q = absurd (omega (arith, k, d))
+scale-second {S = S} parts ptp z a s (inr (h, inr (k, (t, e, l, m)))) d q =
+    let same : s ≡ t = cc in
+    ap (λ (x : S). pos (parts .count x)) same ∙ sym m
 
 pub gps-back : (s : PtpSecond) (g : GpsSecond) → gpsOf s ≡ Gps.Second g → fromGps g ≡ pos (s .0)
-unfolding gpsOf
 gps-back s g e =
-    ap (λ (z : ℤ). z +ℤ pos gpsOffset) (scaled-second _ _ _ (second-of-gps _ g e)) ∙ -ℤ-+ℤ-cancel (pos (s .0)) (pos gpsOffset)
+    ap (λ (z : ℤ). z +ℤ pos gpsOffset) (scale-second gpsParts (s .0) (pos (s .0) -ℤ pos gpsOffset) (gpsOf s) g (gps-answers s) (ap gpsNo e) (ap gpsSecond e))
+    ∙ -ℤ-+ℤ-cancel (pos (s .0)) (pos gpsOffset)
 
 pub utc-back : (s : PtpSecond) (leap : ℤ) (u : UtcSecond) → utcOf s leap ≡ Utc.Second u → fromUtc u leap ≡ pos (s .0)
-unfolding utcOf
-utc-back s leap u e = ap (λ (z : ℤ). z +ℤ leap) (scaled-second _ _ _ (second-of-utc _ u e)) ∙ -ℤ-+ℤ-cancel (pos (s .0)) leap
+utc-back s leap u e =
+    ap (λ (z : ℤ). z +ℤ leap) (scale-second utcParts (s .0) (pos (s .0) -ℤ leap) (utcOf s leap) u (utc-answers s leap) (ap utcNo e) (ap utcSecond e))
+    ∙ -ℤ-+ℤ-cancel (pos (s .0)) leap
 
 pub ntp-back : (s : PtpSecond) (leap : ℤ) (n : NtpSecond) → ntpOf s leap ≡ Ntp.Second n → fromNtp n leap ≡ pos (s .0)
-unfolding ntpOf
 ntp-back s leap n e =
-    ap (λ (z : ℤ). z +ℤ leap -ℤ pos ntpOffset) (scaled-second _ _ _ (second-of-ntp _ n e))
-    ∙ ap (λ (z : ℤ). z -ℤ pos ntpOffset) (-ℤ-+ℤ-cancel (pos (s .0) +ℤ pos ntpOffset) leap)
+    let z = pos (s .0) +ℤ pos ntpOffset -ℤ leap in
+    ap (λ (y : ℤ). y +ℤ leap -ℤ pos ntpOffset) (scale-second ntpParts (s .0) z (ntpOf s leap) n (ntp-answers s leap) (ap ntpNo e) (ap ntpSecond e))
+    ∙ ap (λ (y : ℤ). y -ℤ pos ntpOffset) (-ℤ-+ℤ-cancel (pos (s .0) +ℤ pos ntpOffset) leap)
     ∙ +ℤ-negℤ-cancel (pos (s .0)) (pos ntpOffset)

@@ -61,7 +61,7 @@ module _ (g : GrandTime) where
   unfolding exportOf
   export-answers =
       if-when (ExportAnswers g) (ltb (g .0) second && ltb (g .1) second)
-      (λ e. let k = below-both (g .0) second (g .1) second e in inr (refl, record { seconds = k .0; fraction = k .1 }))
+      (λ e. let k = below-both (g .0) second (g .1) second e in inr (refl, refl, record { seconds = k .0; fraction = k .1 }))
       (λ e. inl (refl, λ r. true≢false (sym (both-below _ _ _ _ (r .seconds) (r .fraction)) ∙ e)))
 
 module _ (t : PtpTime) where
@@ -78,5 +78,5 @@ module _ (t : PtpTime) where
   unfolding importOf
   import-answers =
       if-when (ImportAnswers t) (ltb (t .0 .0) second && ltb (t .1) billion)
-      (λ e. let k = below-both (t .0 .0) second (t .1) billion e in inr (refl, record { seconds = k .0; nanosecond = k .1 }))
+      (λ e. let k = below-both (t .0 .0) second (t .1) billion e in inr (refl, refl, record { seconds = k .0; nanosecond = k .1 }))
       (λ e. inl (refl, λ r. true≢false (sym (both-below _ _ _ _ (r .seconds) (r .nanosecond)) ∙ e)))

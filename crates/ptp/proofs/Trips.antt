@@ -36,15 +36,15 @@ pub exported : (g : GrandTime) (t : PtpTime) → exportOf g ≡ Exports.At t →
 exported g t e = go (subst (ExportAnswers g) e (export-answers g))
   where
     go : ExportAnswers g (Exports.At t) → InRange g × (ptpTimeOf g ≡ t)
-    go (inl (q, f)) = let clash : _≡_ {A = ℕ} 0 1 = cc in absurd (omega arith)
-    go (inr (q, r)) = (r, let k : ptpTimeOf g ≡ t = cc in k)
+    go (inl (q, f)) = absurd (omega (arith, q))
+    go (inr (d, q, r)) = (r, let k : ptpTimeOf g ≡ t = cc in k)
 
 pub imported : (t : PtpTime) (g : GrandTime) → importOf t ≡ Imports.At g → Importable t × (grandTimeOf t ≡ g)
 imported t g e = go (subst (ImportAnswers t) e (import-answers t))
   where
     go : ImportAnswers t (Imports.At g) → Importable t × (grandTimeOf t ≡ g)
-    go (inl (q, f)) = let clash : _≡_ {A = ℕ} 0 1 = cc in absurd (omega arith)
-    go (inr (q, r)) = (r, let k : grandTimeOf t ≡ g = cc in k)
+    go (inl (q, f)) = absurd (omega (arith, q))
+    go (inr (d, q, r)) = (r, let k : grandTimeOf t ≡ g = cc in k)
 
 -- ---- the theorems on both calls
 

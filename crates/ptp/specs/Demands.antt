@@ -1,21 +1,22 @@
 -- What the theorems on timestamps and scales say.
 use mathlib.Core.Path.{_≡_}
 use mathlib.Core.Logic.{_⊎_}
+use mathlib.Core.Option.{Option, some}
 use Prim.Native.Nat.{ℕ, _+_, _*_, _<_, _≤_}
 use lib.IntN.{ℤ, pos, _+ℤ_, _-ℤ_}
-use Rattle.refusals.specs.Refusals.{outOfRange, beyondRange}
 use Rattle.times.specs.Times.{second, units, InRange}
 use Rattle.times.specs.declared.GrandTime.{GrandTime}
-use Rattle.ptp.specs.Timestamp.{billion, nanosecondOf, ptpTimeOf, grandTimeOf}
-use Rattle.ptp.specs.Scale.{secondsEnd, gpsOffset, ntpOffset}
+use Rattle.ptp.specs.Timestamp.{billion, nanosecondOf, ptpTimeOf, grandTimeOf, exportNo, exportTime, importNo, importTime}
+use Rattle.ptp.specs.Scale.{secondsEnd, gpsOffset, ntpOffset, gpsNo, gpsSecond, utcNo, utcSecond, ntpNo, ntpSecond}
 use Rattle.ptp.specs.declared.PtpTime.{PtpTime}
 use Rattle.ptp.specs.declared.Exported.{Exported}
-use Rattle.ptp.specs.declared.Exported.the-variants as Exports
 use Rattle.ptp.specs.declared.Imported.{Imported}
-use Rattle.ptp.specs.declared.Imported.the-variants as Imports
 use Rattle.ptp.specs.declared.scales.GpsSecond.{GpsSecond}
 use Rattle.ptp.specs.declared.scales.UtcSecond.{UtcSecond}
 use Rattle.ptp.specs.declared.scales.NtpSecond.{NtpSecond}
+use Rattle.ptp.specs.declared.scales.ToGps.{ToGps}
+use Rattle.ptp.specs.declared.scales.ToUtc.{ToUtc}
+use Rattle.ptp.specs.declared.scales.ToNtp.{ToNtp}
 
 -- ---- timestamps
 
@@ -26,10 +27,10 @@ pub record Importable (t : PtpTime) : Type 0 where
 
 -- each answer, with what holds just where it is given
 abbrev pub ExportAnswers : GrandTime → Exported → Type 0
-ExportAnswers g a = ((a ≡ Exports.Refused outOfRange) × (InRange g → ⊥)) ⊎ ((a ≡ Exports.At (ptpTimeOf g)) × InRange g)
+ExportAnswers g a = ((exportNo a ≡ 2) × (InRange g → ⊥)) ⊎ ((exportNo a ≡ 0) × (exportTime a ≡ some (ptpTimeOf g)) × InRange g)
 
 abbrev pub ImportAnswers : PtpTime → Imported → Type 0
-ImportAnswers t a = ((a ≡ Imports.Refused outOfRange) × (Importable t → ⊥)) ⊎ ((a ≡ Imports.At (grandTimeOf t)) × Importable t)
+ImportAnswers t a = ((importNo a ≡ 2) × (Importable t → ⊥)) ⊎ ((importNo a ≡ 0) × (importTime a ≡ some (grandTimeOf t)) × Importable t)
 
 -- a PTP time as one number of nanoseconds
 abbrev pub nanoseconds : PtpTime → ℕ
@@ -50,14 +51,30 @@ pub record JustBefore (earlier later : GrandTime) : Type 0 where
 
 -- ---- scales
 
--- a scale's second z in its range, or that there is none
-abbrev pub SecondAnswers : {A : Type 0} → (ℕ → A) → (ℕ → A) → ℤ → A → Type 0
-SecondAnswers refused at z a =
-    ((a ≡ refused beyondRange) × ((n : ℕ) → z ≡ pos n → secondsEnd ≤ n)) ⊎ ((n : ℕ) × (a ≡ at n) × (n < secondsEnd) × (z ≡ pos n))
+-- what an answer of a scale says: its number, its second, and that second as a number
+pub record AnswerParts (A S : Type 0) : Type 0 where
+  pub number : A → ℕ
+  pub second : A → Option S
+  pub count : S → ℕ
 
--- the answers of a scale, in the order in which they are tested: 2 for the PTP second, then 13 for the scale's, else that second
-abbrev pub ScaleAnswers : {A : Type 0} → (ℕ → A) → (ℕ → A) → ℕ → ℤ → A → Type 0
-ScaleAnswers refused at ptp z a = ((a ≡ refused outOfRange) × (secondsEnd ≤ ptp)) ⊎ ((ptp < secondsEnd) × SecondAnswers refused at z a)
+-- 13 where z, the second of the scale, is none in its range; else that second
+abbrev pub SecondAnswers : {A S : Type 0} → AnswerParts A S → ℤ → A → Type 0
+SecondAnswers {A} {S} parts z a =
+    ((parts .number a ≡ 13) × ((n : ℕ) → z ≡ pos n → secondsEnd ≤ n))
+    ⊎ ((parts .number a ≡ 0) × ((s : S) × (parts .second a ≡ some s) × (parts .count s < secondsEnd) × (z ≡ pos (parts .count s))))
+
+-- 2 for the PTP second first
+abbrev pub ScaleAnswers : {A S : Type 0} → AnswerParts A S → ℕ → ℤ → A → Type 0
+ScaleAnswers parts ptp z a = ((parts .number a ≡ 2) × (secondsEnd ≤ ptp)) ⊎ ((ptp < secondsEnd) × SecondAnswers parts z a)
+
+abbrev pub gpsParts : AnswerParts ToGps GpsSecond
+gpsParts = record { number = gpsNo; second = gpsSecond; count = λ g. g .0 }
+
+abbrev pub utcParts : AnswerParts ToUtc UtcSecond
+utcParts = record { number = utcNo; second = utcSecond; count = λ u. u .0 }
+
+abbrev pub ntpParts : AnswerParts ToNtp NtpSecond
+ntpParts = record { number = ntpNo; second = ntpSecond; count = λ n. n .0 }
 
 -- the inverse of each scale, over whole numbers
 abbrev pub fromGps : GpsSecond → ℤ

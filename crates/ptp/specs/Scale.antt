@@ -1,12 +1,16 @@
 -- PTP seconds on the scales of GPS, UTC and NTP.
 use mathlib.Core.Bool.{cond}
+use mathlib.Core.Option.{Option, none, some}
 use Prim.Native.Nat.{ℕ, _^_}
 use lib.Dec.{ltb}
 use lib.IntN.{ℤ, pos, negsuc, _+ℤ_, _-ℤ_}
-use Rattle.refusals.specs.Refusals.{outOfRange, beyondRange}
+use Rattle.refusals.specs.Refusals.{done, outOfRange, beyondRange}
 use Rattle.ptp.specs.declared.PtpSecond.{PtpSecond}
 use Rattle.ptp.specs.declared.scales.Scaled.{Scaled}
 use Rattle.ptp.specs.declared.scales.Scaled.the-variants.{Second, Refused}
+use Rattle.ptp.specs.declared.scales.GpsSecond.{GpsSecond}
+use Rattle.ptp.specs.declared.scales.UtcSecond.{UtcSecond}
+use Rattle.ptp.specs.declared.scales.NtpSecond.{NtpSecond}
 use Rattle.ptp.specs.declared.scales.ToGps.{ToGps}
 use Rattle.ptp.specs.declared.scales.ToGps.the-variants as Gps
 use Rattle.ptp.specs.declared.scales.ToUtc.{ToUtc}
@@ -59,3 +63,29 @@ asNtp (Refused k) = Ntp.Refused k
 
 unfoldable pub ntpOf : PtpSecond → ℤ → ToNtp
 ntpOf s leapSeconds = asNtp (scaledOf (s .0) (pos (s .0) +ℤ pos ntpOffset -ℤ leapSeconds))
+
+-- ---- the number of an answer, and the second that it carries
+
+abbrev pub gpsNo : ToGps → ℕ
+gpsNo (Gps.Second s) = done
+gpsNo (Gps.Refused k) = k
+
+abbrev pub gpsSecond : ToGps → Option GpsSecond
+gpsSecond (Gps.Second s) = some s
+gpsSecond (Gps.Refused k) = none
+
+abbrev pub utcNo : ToUtc → ℕ
+utcNo (Utc.Second s) = done
+utcNo (Utc.Refused k) = k
+
+abbrev pub utcSecond : ToUtc → Option UtcSecond
+utcSecond (Utc.Second s) = some s
+utcSecond (Utc.Refused k) = none
+
+abbrev pub ntpNo : ToNtp → ℕ
+ntpNo (Ntp.Second s) = done
+ntpNo (Ntp.Refused k) = k
+
+abbrev pub ntpSecond : ToNtp → Option NtpSecond
+ntpSecond (Ntp.Second s) = some s
+ntpSecond (Ntp.Refused k) = none

@@ -1,8 +1,9 @@
 -- Timestamps of a PTP analyser: the PTP time of a grand time, and the grand time of a PTP time.
 use mathlib.Core.Bool.{cond, _&&_}
+use mathlib.Core.Option.{Option, none, some}
 use Prim.Native.Nat.{ℕ, _+_, _-_, _*_, _/_, _^_}
 use lib.Dec.{ltb}
-use Rattle.refusals.specs.Refusals.{outOfRange}
+use Rattle.refusals.specs.Refusals.{done, outOfRange}
 use Rattle.times.specs.Times.{second}
 use Rattle.times.specs.declared.GrandTime.{GrandTime}
 use Rattle.ptp.specs.declared.PtpSecond.{PtpSecond}
@@ -42,3 +43,21 @@ grandTimeOf t = record { 0 = t .0 .0; 1 = fractionOf (t .1) }
 -- 2 for seconds that grand time has not, or for a nanosecond that a second has not
 unfoldable pub importOf : PtpTime → Imported
 importOf t = cond (ltb (t .0 .0) second && ltb (t .1) billion) (Imports.At (grandTimeOf t)) (Imports.Refused outOfRange)
+
+-- ---- the number of an answer, and the time that it carries
+
+abbrev pub exportNo : Exported → ℕ
+exportNo (Exports.At t) = done
+exportNo (Exports.Refused k) = k
+
+abbrev pub exportTime : Exported → Option PtpTime
+exportTime (Exports.At t) = some t
+exportTime (Exports.Refused k) = none
+
+abbrev pub importNo : Imported → ℕ
+importNo (Imports.At g) = done
+importNo (Imports.Refused k) = k
+
+abbrev pub importTime : Imported → Option GrandTime
+importTime (Imports.At g) = some g
+importTime (Imports.Refused k) = none

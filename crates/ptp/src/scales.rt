@@ -2,7 +2,8 @@
 ghost use mathlib.Core.Path.{_≡_};
 ghost use Prim.Native.Nat.{_^_, _<_};
 ghost use lib.IntN.{pos, natAbs, _+ℤ_, _-ℤ_};
-ghost use Rattle.ptp.specs.Scale.{scaledOf, gpsOf, utcOf, ntpOf};
+ghost use Rattle.ptp.specs.Scale.{scaledOf, gpsOf, utcOf, ntpOf, gpsNo, gpsSecond, utcNo, utcSecond, ntpNo, ntpSecond};
+ghost use Rattle.ptp.specs.Promises.{AnswerPromise};
 use crate::PtpSecond;
 use numbers::whole;
 
@@ -73,7 +74,7 @@ fn on_scale(second: PtpSecond, offset: i64, leap: i16) -> Scaled
 
 // GPS: a PTP second on the GPS scale.
 pub fn gps(second: PtpSecond) -> ToGps
-    ensures { λ r. ⌜ r ≡ gpsOf second ⌝ }
+    ensures { λ r. ⌜ AnswerPromise gpsNo gpsSecond (gpsOf second) r ⌝ }
 {
     match on_scale(second, GPS_OFFSET, NO_LEAP) {
         Scaled::Second(n) => ToGps::Second(GpsSecond(n)),
@@ -83,7 +84,7 @@ pub fn gps(second: PtpSecond) -> ToGps
 
 // UTC: a PTP second on the UTC scale, by the leap seconds supplied.
 pub fn utc(second: PtpSecond, leap: i16) -> ToUtc
-    ensures { λ r. ⌜ r ≡ utcOf second leap ⌝ }
+    ensures { λ r. ⌜ AnswerPromise utcNo utcSecond (utcOf second leap) r ⌝ }
 {
     match on_scale(second, UTC_OFFSET, leap) {
         Scaled::Second(n) => ToUtc::Second(UtcSecond(n)),
@@ -93,7 +94,7 @@ pub fn utc(second: PtpSecond, leap: i16) -> ToUtc
 
 // NTP: a PTP second on the NTP scale, by the leap seconds supplied.
 pub fn ntp(second: PtpSecond, leap: i16) -> ToNtp
-    ensures { λ r. ⌜ r ≡ ntpOf second leap ⌝ }
+    ensures { λ r. ⌜ AnswerPromise ntpNo ntpSecond (ntpOf second leap) r ⌝ }
 {
     match on_scale(second, NTP_OFFSET, leap) {
         Scaled::Second(n) => ToNtp::Second(NtpSecond(n)),

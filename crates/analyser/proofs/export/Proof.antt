@@ -7,13 +7,13 @@ found : tie.Need-returns
 found c =
     let p = c .before .before in
     let v = p .before .before .before in
-    rw (← v .before .before .export .ensures, v .time .given .1) (p .timestamp .ensures)
+    rw (← v .before .before .export .ensures .answer, v .time .given .1) (p .timestamp .ensures)
 
 refused : tie.Need-returns-2
 refused c =
     let p = c .before .before in
     let v = p .before .before .before in
-    rw (← v .before .before .export .ensures, v .no .given .1) (p .one .ensures)
+    rw (← v .before .before .export .ensures .answer, v .no .given .1) (p .one .ensures)
 
 pub export-spec : {M : Type 1} → statement M
 export-spec =

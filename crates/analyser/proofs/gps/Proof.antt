@@ -7,13 +7,13 @@ found : tie.Need-returns
 found c =
     let p = c .before .before in
     let v = p .before .before .before in
-    rw (← v .before .before .gps .ensures, v .gps-second .given .1) (p .second .ensures)
+    rw (← v .before .before .gps .ensures .answer, v .gps-second .given .1) (p .second .ensures)
 
 refused : tie.Need-returns-2
 refused c =
     let p = c .before .before in
     let v = p .before .before .before in
-    rw (← v .before .before .gps .ensures, v .no .given .1) (p .one .ensures)
+    rw (← v .before .before .gps .ensures .answer, v .no .given .1) (p .one .ensures)
 
 pub gps-spec : {M : Type 1} → statement M
 gps-spec =

@@ -13,7 +13,7 @@ said : (c : tie.After-ntp) →
     c .ntp .result ≡ ntpOf (secondIn form) (leapIn (form .bytes))
 said c =
     let leap = c .before .leap in
-    c .ntp .ensures ∙ ap (ntpOf _) (toZ-ofZ (record { sfits = leap .ok }) ∙ leap .ensures)
+    c .ntp .ensures .answer ∙ ap (ntpOf _) (toZ-ofZ (record { sfits = leap .ok }) ∙ leap .ensures)
 
 found : tie.Need-returns
 found c =

@@ -13,7 +13,7 @@ said : (c : tie.After-utc) →
     c .utc .result ≡ utcOf (secondIn form) (leapIn (form .bytes))
 said c =
     let leap = c .before .leap in
-    c .utc .ensures ∙ ap (utcOf _) (toZ-ofZ (record { sfits = leap .ok }) ∙ leap .ensures)
+    c .utc .ensures .answer ∙ ap (utcOf _) (toZ-ofZ (record { sfits = leap .ok }) ∙ leap .ensures)
 
 found : tie.Need-returns
 found c =

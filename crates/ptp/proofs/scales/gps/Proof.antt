@@ -2,6 +2,7 @@
 use mathlib.Core.Path.{sym, ap, _∙_}
 use borrow.Author.Needs.{needs}
 use Rattle.ptp.specs.Scale.{asGps}
+use Rattle.ptp.proofs.PromiseLaws.{promised}
 use Rattle.ptp.proofs.ScaleLaws.{gps-by}
 use Rattle.ptp.proofs.scales.gps.Statement.{statement}
 use Rattle.ptp.proofs.scales.gps.Tie as tie
@@ -13,5 +14,5 @@ gps-spec =
     (λ c κs. search needs)
     (λ c. search needs)
     (λ c. search needs)
-    (λ c. gps-by _ (sym (c .before .n .given .1) ∙ c .before .before .before .on-scale .ensures))
-    (λ c. gps-by _ (sym (c .before .no .given .1) ∙ c .before .before .before .on-scale .ensures)))
+    (λ c. promised _ _ _ (gps-by _ (sym (c .before .n .given .1) ∙ c .before .before .before .on-scale .ensures)))
+    (λ c. promised _ _ _ (gps-by _ (sym (c .before .no .given .1) ∙ c .before .before .before .on-scale .ensures))))

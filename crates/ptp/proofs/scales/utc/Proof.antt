@@ -2,6 +2,7 @@
 use mathlib.Core.Path.{sym, ap, _∙_}
 use borrow.Author.Needs.{needs}
 use Rattle.ptp.specs.Scale.{asUtc}
+use Rattle.ptp.proofs.PromiseLaws.{promised}
 use Rattle.ptp.proofs.ScaleLaws.{leap-same, utc-by}
 use Rattle.ptp.proofs.scales.utc.Statement.{statement}
 use Rattle.ptp.proofs.scales.utc.Tie as tie
@@ -13,5 +14,5 @@ utc-spec =
     (λ c κs. search needs)
     (λ c. search needs)
     (λ c. search needs)
-    (λ c. utc-by _ (leap-same _ (c .before .before .before .before .fits .leap)) (sym (c .before .n .given .1) ∙ c .before .before .before .on-scale .ensures))
-    (λ c. utc-by _ (leap-same _ (c .before .before .before .before .fits .leap)) (sym (c .before .no .given .1) ∙ c .before .before .before .on-scale .ensures)))
+    (λ c. promised _ _ _ (utc-by _ (leap-same _ (c .before .before .before .before .fits .leap)) (sym (c .before .n .given .1) ∙ c .before .before .before .on-scale .ensures)))
+    (λ c. promised _ _ _ (utc-by _ (leap-same _ (c .before .before .before .before .fits .leap)) (sym (c .before .no .given .1) ∙ c .before .before .before .on-scale .ensures))))
