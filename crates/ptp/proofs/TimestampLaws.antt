@@ -1,15 +1,15 @@
 -- Laws of timestamps: what the shared 2^9 leaves of the two products, what lies in a nanosecond, and the answers of both calls.
-use mathlib.Core.Path.{_≡_, refl, sym, ap, _∙_}
-use mathlib.Core.Bool.{Bool, true, _&&_, true≢false}
-use mathlib.Core.Logic.{_⊎_, inl, inr}
-use Prim.Native.Nat.{ℕ, _+_, _*_, _/_, _^_, _<_, _≤_}
+use mathlib.Core.Path.{_≡_, refl, sym, _∙_}
+use mathlib.Core.Bool.{true, _&&_, true≢false}
+use mathlib.Core.Logic.{inl, inr}
+use Prim.Native.Nat.{ℕ, _+_, _*_, _/_, _^_, _<_}
 use native.Mathlib.Omega.{arith}
 use borrow.Author.Tests.{lt-ltb, ltb-true}
 use lib.Dec.{ltb}
 use Rattle.refusals.specs.Refusals.{outOfRange}
 use Rattle.times.specs.Times.{second, InRange}
 use Rattle.times.specs.declared.GrandTime.{GrandTime}
-use Rattle.ptp.specs.Timestamp.{billion, nanosecondOf, fractionOf, ptpTimeOf, exportOf, grandTimeOf, importOf}
+use Rattle.ptp.specs.Timestamp.{billion, nanosecondOf, fractionOf, exportOf, importOf}
 use Rattle.ptp.specs.Demands.{Importable, ExportAnswers, ImportAnswers}
 use Rattle.ptp.specs.declared.PtpTime.{PtpTime}
 use Rattle.ptp.specs.declared.Exported.the-variants as Exports

@@ -1,6 +1,6 @@
 -- Export and Import, one after the other: what comes back, that it is the least, and that export keeps the order.
 use mathlib.Core.Path.{_≡_, refl, sym, ap, _∙_, subst}
-use mathlib.Core.Logic.{_⊎_, inl, inr}
+use mathlib.Core.Logic.{inl, inr}
 use Prim.Native.Nat.{ℕ, _+_, _*_, _/_, _<_, _≤_}
 use native.Mathlib.Omega.{arith}
 use Rattle.times.specs.Times.{second, units, InRange}

@@ -1,12 +1,11 @@
 -- Timestamps and scales at the edges: tables of cases, each with what the request says.
 use mathlib.Core.Path.{_≡_}
 use mathlib.Core.List.{List, [], _∷_, map}
-use Prim.Native.Nat.{ℕ, _+_, _-_, _^_}
+use Prim.Native.Nat.{ℕ, _-_, _^_}
 use lib.IntN.{ℤ, pos, negsuc}
 use Rattle.ptp.specs.Timestamp.{exportOf, importOf}
 use Rattle.ptp.specs.Scale.{gpsOf, utcOf, ntpOf}
 use Rattle.ptp.specs.declared.PtpSecond.{PtpSecond}
-use Rattle.ptp.specs.declared.PtpTime.{PtpTime}
 use Rattle.ptp.specs.declared.Exported.{Exported}
 use Rattle.ptp.specs.declared.Exported.the-variants as Exports
 use Rattle.ptp.specs.declared.Imported.{Imported}

@@ -6,7 +6,6 @@ use lib.Dec.{ltb}
 use Rattle.refusals.specs.Refusals.{done, outOfRange}
 use Rattle.times.specs.Times.{second}
 use Rattle.times.specs.declared.GrandTime.{GrandTime}
-use Rattle.ptp.specs.declared.PtpSecond.{PtpSecond}
 use Rattle.ptp.specs.declared.PtpTime.{PtpTime}
 use Rattle.ptp.specs.declared.Exported.{Exported}
 use Rattle.ptp.specs.declared.Exported.the-variants as Exports
