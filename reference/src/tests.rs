@@ -509,6 +509,15 @@ fn gps_keeps_its_range() {
     assert_eq!(on_scale(SECONDS_END, Scale::Gps), Err(OUT_OF_RANGE));
 }
 
+/// Asserts that a scale begins so many seconds ahead of PTP, and has none left as many before PTP ends.
+fn assert_ends_early(scale: Scale, ahead: u64) {
+    assert_eq!(on_scale(0, scale), Ok(ahead));
+    assert_eq!(on_scale(LAST - ahead - 1, scale), Ok(LAST - 1));
+    assert_eq!(on_scale(LAST - ahead, scale), Ok(LAST));
+    assert_eq!(on_scale(LAST - ahead + 1, scale), Err(BEYOND_RANGE));
+    assert_eq!(on_scale(LAST, scale), Err(BEYOND_RANGE));
+}
+
 /// UTC begins at its leap seconds, or where they are below zero ends so much earlier.
 #[test]
 fn utc_keeps_its_range() {
@@ -523,14 +532,7 @@ fn utc_keeps_its_range() {
     assert_eq!(on_scale(0, Scale::Utc(0)), Ok(0));
     assert_eq!(on_scale(LAST, Scale::Utc(0)), Ok(LAST));
     for (leap, ahead) in [(-1, 1), (-37, 37), (i16::MIN, 32_768)] {
-        assert_eq!(on_scale(0, Scale::Utc(leap)), Ok(ahead));
-        assert_eq!(on_scale(LAST - ahead - 1, Scale::Utc(leap)), Ok(LAST - 1));
-        assert_eq!(on_scale(LAST - ahead, Scale::Utc(leap)), Ok(LAST));
-        assert_eq!(
-            on_scale(LAST - ahead + 1, Scale::Utc(leap)),
-            Err(BEYOND_RANGE)
-        );
-        assert_eq!(on_scale(LAST, Scale::Utc(leap)), Err(BEYOND_RANGE));
+        assert_ends_early(Scale::Utc(leap), ahead);
     }
 }
 
@@ -544,14 +546,7 @@ fn ntp_keeps_its_range() {
         (37, 2_208_988_763),
         (i16::MAX, 2_208_956_033),
     ] {
-        assert_eq!(on_scale(0, Scale::Ntp(leap)), Ok(ahead));
-        assert_eq!(on_scale(LAST - ahead - 1, Scale::Ntp(leap)), Ok(LAST - 1));
-        assert_eq!(on_scale(LAST - ahead, Scale::Ntp(leap)), Ok(LAST));
-        assert_eq!(
-            on_scale(LAST - ahead + 1, Scale::Ntp(leap)),
-            Err(BEYOND_RANGE)
-        );
-        assert_eq!(on_scale(LAST, Scale::Ntp(leap)), Err(BEYOND_RANGE));
+        assert_ends_early(Scale::Ntp(leap), ahead);
     }
 }
 
