@@ -1,5 +1,6 @@
 pub mod Ring
 pub mod Floor
+pub mod Nearest
 pub mod Machine
 pub mod Places
 pub mod Table

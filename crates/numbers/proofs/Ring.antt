@@ -5,8 +5,9 @@ use native.Mathlib.Nat.{sub-add-cancel, lt-of-not-le}
 use native.Mathlib.Decide.{decLe}
 use native.Mathlib.Omega.{arith}
 use borrow.Author.Tests.{le-ltb, lt-ltb}
+use lib.Dec.{lt→ltb}
 use lib.IntN.{ℤ, pos, negsuc, natAbs, negℤ, subℕ, _+ℤ_, _-ℤ_, _*ℤ_}
-use lib.Signed.{mag}
+use lib.Signed.{mag, _<ℤ_, ltZ-yes}
 
 pub natAbs-neg : (z : ℤ) → natAbs (negℤ z) ≡ natAbs z
 natAbs-neg (pos zero) = refl
@@ -135,3 +136,29 @@ pub sub-ge2 : (a b : ℕ) → a ≤ b + natAbs (subℕ a b)
 sub-ge2 = diff-ind (λ a b. a ≤ b + natAbs (subℕ a b))
     (λ n b. rw (sub-pos n b) (omega arith))
     (λ n a. omega arith)
+
+-- a − b is above zero where a is above b
+pub sub-above : (a b : ℕ) → b < a → pos 0 <ℤ subℕ a b
+sub-above = diff-ind (λ a b. b < a → pos 0 <ℤ subℕ a b)
+    (λ n b h. rw (sub-pos n b) (ltZ-yes (lt→ltb 0 n (omega arith))))
+    (λ n a h. absurd (omega arith))
+
+-- z + h and y + k are one number just where y less z is h less k
+module _ (y z : ℤ) (h k : ℕ) where
+  pub less-is : z +ℤ pos h ≡ y +ℤ pos k → y -ℤ z ≡ subℕ h k
+  less-is e = out y z ∙ ap (λ (x : ℤ). x -ℤ z -ℤ pos k) (sym e) ∙ left z
+    where
+      out : (y z : ℤ) → y -ℤ z ≡ y +ℤ pos k -ℤ z -ℤ pos k
+      out y z = rw (neg-pos k, of-pos k, split y, split z) (simp (sub-+, sub-neg-is) (omega (arith, same)))
+
+      left : (z : ℤ) → z +ℤ pos h -ℤ z -ℤ pos k ≡ subℕ h k
+      left z = rw (neg-pos k, of-pos h, split z) (simp (sub-+, sub-neg-is) (omega (arith, same)))
+
+  pub less-back : y -ℤ z ≡ subℕ h k → z +ℤ pos h ≡ y +ℤ pos k
+  less-back e = left z ∙ ap (λ (x : ℤ). x +ℤ (z +ℤ pos k)) (sym e) ∙ out y z
+    where
+      left : (z : ℤ) → z +ℤ pos h ≡ subℕ h k +ℤ (z +ℤ pos k)
+      left z = rw (of-pos h, of-pos k, split z) (simp (sub-+) (omega (arith, same)))
+
+      out : (y z : ℤ) → y -ℤ z +ℤ (z +ℤ pos k) ≡ y +ℤ pos k
+      out y z = rw (of-pos k, split y, split z) (simp (sub-+, sub-neg-is) (omega (arith, same)))

@@ -1,9 +1,9 @@
 // Signed numbers. The signed operators of the language stand in this file and nowhere above it.
 ghost use mathlib.Core.Path.{_≡_};
-ghost use Prim.Native.Nat.{_+_, _*_, _<_, _^_};
+ghost use Prim.Native.Nat.{_+_, _*_, _/_, _<_, _^_};
 ghost use lib.IntN.{pos, natAbs, _+ℤ_, _-ℤ_, _*ℤ_};
 ghost use lib.Signed.{ltZ};
-ghost use Rattle.numbers.specs.Whole.{floorDiv, atLeastZero};
+ghost use Rattle.numbers.specs.Whole.{floorDiv, nearestDiv, atLeastZero};
 
 // The floor of z / m, also where z is below zero.
 pub fn floor_div(z: i64, m: u64) -> i64
@@ -15,6 +15,15 @@ pub fn floor_div(z: i64, m: u64) -> i64
     } else {
         (z as u64 / m) as i64
     }
+}
+
+// The nearest whole number to z / m, a half going up. Half of m is added before the division, since twice z may not fit.
+pub fn nearest_div(z: i64, m: u64) -> i64
+    requires { ⌜ 0 < m ⌝ }
+    requires { ⌜ natAbs z + m / 2 < 2 ^ 63 ⌝ }
+    ensures { λ r. ⌜ r ≡ nearestDiv z m ⌝ }
+{
+    floor_div(add(z, from_unsigned(m / 2)), m)
 }
 
 // The size of z, whatever its sign.
