@@ -1,4 +1,4 @@
--- Demand 3 on the frame: where Send answers 0, the ten bytes of grandTime that it wrote lie less than 17 U from the exact line
+-- Demand 3 on the frame: where Send answers 0, the ten bytes of grandTime that it wrote lie less than `bound` units from the exact line
 -- through the oldest and the newest kept sample of the chosen clock, read at t less backTime, plus backTime, across the wrap.
 -- And what hopCount and frameCount are in it.
 use mathlib.Core.Path.{_≡_, refl, sym, ap, _∙_, subst}

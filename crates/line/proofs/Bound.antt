@@ -1,14 +1,15 @@
--- Demand 3's bound, once for every reading: it lies less than `bound` units from the exact line, which passes through both samples.
+-- Demand 3's bound, once for every reading: it lies less than `bound` units from the exact line, and no smaller number would do. The line passes through both samples.
 use mathlib.Core.Path.{_≡_, sym, ap, _∙_}
-use Prim.Native.Nat.{ℕ, _+_, _*_, _<_, _≤_}
+use Prim.Native.Nat.{ℕ, _+_, _-_, _*_, _^_, _<_, _≤_}
 use native.Mathlib.Nat.{mul-le-mul-left, mul-le-mul-right}
 use native.Mathlib.Omega.{arith}
+use lib.Dec.{lit<, lit≤}
 use lib.IntN.{ℤ, pos, negℤ, natAbs, _+ℤ_, _-ℤ_, _*ℤ_, *ℤ-zero, +ℤ-idr, +ℤ-assoc, +ℤ-comm}
-use Rattle.times.specs.Times.{second, units}
+use Rattle.times.specs.Times.{second, sinceOf, units, grandOf}
 use Rattle.samples.specs.Rate.{parts, steepest, rateOf, scaledOf, advanceOf}
 use Rattle.samples.specs.Keep.{spreadOf, riseOf, gainedOf, rateBetween, LawfulEnds}
 use Rattle.samples.specs.declared.Sample.{Sample}
-use Rattle.line.specs.Line.{longestReach, InReach, readingAt, bound, lineAt}
+use Rattle.line.specs.Line.{longestReach, InReach, readingAt, bound, lineAt, ReadingsWithin}
 use Rattle.numbers.proofs.Ring.{same, split, of-pos, neg-pos, sub-+, sub-*, sub-neg-is, natAbs-*, natAbs-+}
 use Rattle.samples.proofs.RateLaws.{rate-near, scaled-near, scaled-small}
 
@@ -34,7 +35,7 @@ correction-near s d x hs hx =
       natAbs-* x rating,
       mul-le-mul-left s (scaled-near r x),
       mul-le-mul-right (natAbs rating) hx,
-      rate-near d s hs,
+      rate-near d s hs .near,
     )
 
 -- ---- a reading
@@ -44,12 +45,38 @@ line-error : (s : ℕ) (g x q rise : ℤ) → pos s *ℤ (g +ℤ (x +ℤ q)) -�
 line-error s g x q rise =
     rw (of-pos s, split g, split x, split q, split rise) (simp (sub-+, sub-*, sub-neg-is, neg-pos) (omega (arith, same)))
 
-pub reading-near : (a b : Sample) (x : ℤ) → LawfulEnds a b → natAbs x ≤ longestReach
-    → natAbs (pos (spreadOf a b) *ℤ readingAt a b x -ℤ lineAt a b x) < bound * spreadOf a b
+pub reading-near : ReadingsWithin bound
 unfolding readingAt
 reading-near a b x w hx =
     rw (line-error (spreadOf a b) (pos (units (b .grand))) x (scaledOf (rateBetween a b) x) (riseOf a b))
     (correction-near (spreadOf a b) (gainedOf a b) x (omega (arith, w .limits .low)) hx)
+
+-- ---- no smaller bound holds of every reading
+
+abbrev sample : ℕ → ℕ → Sample
+sample g r = record { grand = grandOf g; local = record { 0 = r }; error = record { 0 = 0 } }
+
+-- two samples between which a clock gained 1 over 2^36: its rate is a half, and goes up to 1
+abbrev older : Sample
+older = sample second 0
+
+abbrev newer : Sample
+newer = sample (second + 2 ^ 36 + 1) (2 ^ 36)
+
+-- a distance before them at which both roundings lead down: the reading lies 8.5 units below the line, but for one part of 2^36
+abbrev before : ℤ
+before = negℤ (pos (2 ^ 39 - 2 ^ 35 + 1))
+
+pub bound-least : (k : ℕ) → ReadingsWithin k → bound ≤ k
+unfolding sinceOf rateOf scaledOf readingAt
+bound-least k within =
+    let ends : LawfulEnds older newer = record {
+      oldest = record { seconds = lit< tt; fraction = lit< tt };
+      newest = record { seconds = lit< tt; fraction = lit< tt };
+      limits = record { low = lit≤ tt; high = lit≤ tt; near = lit≤ tt };
+    } in
+    let off : 17 * 2 ^ 35 - 1 < k * 2 ^ 36 = within older newer before ends (lit≤ tt) in
+    omega (arith, off)
 
 -- ---- the line passes through both samples
 

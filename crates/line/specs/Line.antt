@@ -3,7 +3,7 @@ use Prim.Native.Nat.{ℕ, _*_, _^_, _<_, _≤_}
 use lib.IntN.{ℤ, pos, natAbs, _+ℤ_, _-ℤ_, _*ℤ_}
 use Rattle.times.specs.Times.{units}
 use Rattle.samples.specs.Rate.{advanceOf}
-use Rattle.samples.specs.Keep.{spreadOf, riseOf, rateBetween}
+use Rattle.samples.specs.Keep.{spreadOf, riseOf, rateBetween, LawfulEnds}
 use Rattle.samples.specs.declared.Sample.{Sample}
 
 -- the line is read at most this far from the newest sample, before or after it
@@ -22,11 +22,16 @@ readingAt a b x = pos (units (b .grand)) +ℤ advanceOf (rateBetween a b) x
 
 -- a reading lies less than this many units from the exact line
 abbrev pub bound : ℕ
-bound = 17
+bound = 9
 
 -- S times the exact line's grand time, x units of local time after the newest sample: S × (g1 + (g1 - g0) / S × x)
 abbrev pub lineAt : Sample → Sample → ℤ → ℤ
 lineAt a b x = pos (spreadOf a b) *ℤ pos (units (b .grand)) +ℤ riseOf a b *ℤ x
+
+-- every reading within reach lies less than k units from the exact line: both sides times S. `bound` is the least such k
+abbrev pub ReadingsWithin : ℕ → Type 0
+ReadingsWithin k =
+    (a b : Sample) (x : ℤ) → LawfulEnds a b → natAbs x ≤ longestReach → natAbs (pos (spreadOf a b) *ℤ readingAt a b x -ℤ lineAt a b x) < k * spreadOf a b
 
 -- a grand time z lies less than `bound` from the line read at x, plus back: both sides times S
 abbrev pub NearLine : Sample → Sample → ℤ → ℤ → ℕ → Type 0

@@ -67,12 +67,12 @@ table =
     row (rateOf (pos 1) (2 ^ 34)) (pos 2)
     ∷ row (scaledOf (rateOf (pos 1) (2 ^ 34)) (pos (2 ^ 30))) (pos 0)
     ∷ row (scaledOf (rateOf (pos 1) (2 ^ 34)) (minus (2 ^ 30))) (minus 1)
-    -- d 1, -1, S 2^36
-    ∷ row (rateOf (pos 1) (2 ^ 36)) (pos 0)
-    ∷ row (rateOf (minus 1) (2 ^ 36)) (minus 1)
+    -- d 1, -1, S 2^36: halves
+    ∷ row (rateOf (pos 1) (2 ^ 36)) (pos 1)
+    ∷ row (rateOf (minus 1) (2 ^ 36)) (pos 0)
     -- S 4,000,000,000: d 1,000,000 is kept, and what the rates are
     ∷ row (many (gaining 1000000 4000000000)) (pos 2)
-    ∷ row (rateOf (pos 1000000) 4000000000) (pos 8589934)
+    ∷ row (rateOf (pos 1000000) 4000000000) (pos 8589935)
     ∷ row (rateOf (minus 1000000) 4000000000) (minus 8589935)
     -- the same S, d 1,000,001: alone
     ∷ row (many (gaining 1000001 4000000000)) (pos 1)

@@ -1,6 +1,6 @@
--- A stamp lies less than 17 U from the exact line through the oldest and the newest kept sample of the chosen clock, read at the latch,
--- before and after the newer sample and across the wrap. At the newer sample's own local time it is that sample's grand time, at the
--- older one's it lies less than 17 U from that one's.
+-- A stamp lies less than `bound` units from the exact line through the oldest and the newest kept sample of the chosen clock, read at the
+-- latch, before and after the newer sample and across the wrap. At the newer sample's own local time it is that sample's grand time, at
+-- the older one's it lies less than `bound` units from that one's.
 use mathlib.Core.Path.{_≡_, sym, ap, _∙_, subst}
 use Prim.Native.Nat.{ℕ, _+_, _*_, _<_}
 use native.Mathlib.Nat.{lt-of-mul-lt-mul-left}

@@ -7,6 +7,7 @@ use native.Mathlib.Omega.{arith}
 use borrow.Author.Tests.{le-leb, leb-true}
 use lib.Dec.{leb}
 use lib.IntN.{ℤ, pos, natAbs, _-ℤ_, _*ℤ_}
+use Rattle.numbers.specs.Whole.{Nearest}
 use Rattle.times.specs.declared.LocalTime.{LocalTime}
 use Rattle.samples.specs.Rate.{shortestSpread, longestSpread, perGain, parts, Limits, limitsHold, gainOf, rateOf, scaledOf, advanceOf, rateWithin, steepest, neighbourRateOf}
 use Rattle.samples.specs.declared.Pair.{Pair}
@@ -15,6 +16,7 @@ use Rattle.samples.specs.declared.Gain.{Gain}
 use Rattle.samples.specs.declared.Gain.the-variants.{Within, Outside}
 use Rattle.numbers.proofs.Ring.{natAbs-*, natAbs-+}
 use Rattle.numbers.proofs.Floor.{floor-near, floor-small}
+use Rattle.numbers.proofs.Nearest.{nearest-is, nearest-one, nearest-small}
 use Rattle.times.proofs.TestLaws.{three-hold, refuted}
 
 -- ---- the limits, as a fact and as a test
@@ -55,10 +57,16 @@ outside-gain rise s e k =
 
 -- ---- the two roundings, each behind its rule's name: a change of rounding changes these two alone
 
-pub rate-near : (d : ℤ) (s : ℕ) → 0 < s → natAbs (pos s *ℤ rateOf d s -ℤ d *ℤ pos parts) < s
+-- the rate is the nearest whole number to d × 2^35 / S, a half going up, and no other number is
+pub rate-near : (d : ℤ) (s : ℕ) → 0 < s → Nearest (d *ℤ pos parts) s (rateOf d s)
 unfolding rateOf
-rate-near d s h = floor-near (d *ℤ pos parts) s h
+rate-near d s h = nearest-is (d *ℤ pos parts) s h
 
+pub rate-one : (d : ℤ) (s : ℕ) → 0 < s → (r : ℤ) → Nearest (d *ℤ pos parts) s r → rateOf d s ≡ r
+unfolding rateOf
+rate-one d s h = nearest-one (d *ℤ pos parts) s h
+
+-- what a rate makes of a stretch is off by less than one
 pub scaled-near : (r u : ℤ) → natAbs (pos parts *ℤ scaledOf r u -ℤ r *ℤ u) < parts
 unfolding scaledOf
 scaled-near r u = floor-near (r *ℤ u) parts (omega arith)
@@ -69,7 +77,7 @@ scaled-near r u = floor-near (r *ℤ u) parts (omega arith)
 pub rate-small : (d : ℤ) (s : ℕ) → Limits d s → natAbs (rateOf d s) ≤ steepest
 unfolding rateOf
 rate-small d s k =
-    floor-small (d *ℤ pos parts) s steepest (omega (arith, k .low)) (rw (natAbs-* d (pos parts)) (omega (arith, k .near, k .low)))
+    nearest-small (d *ℤ pos parts) s steepest (omega (arith, k .low)) (rw (natAbs-* d (pos parts)) (omega (arith, k .near, k .low)))
 
 -- what a rate makes of a stretch within the longest spread is less than 2^28; the other clock moves on by less than a second
 pub scaled-small : (rate u : ℤ) → natAbs rate ≤ steepest → natAbs u ≤ longestSpread → natAbs (scaledOf rate u) < 2 ^ 28

@@ -3,7 +3,7 @@ use mathlib.Core.Bool.{Bool, cond, _&&_}
 use Prim.Native.Nat.{ℕ, _*_, _^_, _≤_}
 use lib.Dec.{leb}
 use lib.IntN.{ℤ, pos, natAbs, _+ℤ_, _-ℤ_, _*ℤ_}
-use Rattle.numbers.specs.Whole.{floorDiv}
+use Rattle.numbers.specs.Whole.{floorDiv, nearestDiv}
 use Rattle.times.specs.Times.{sinceOf}
 use Rattle.times.specs.declared.LocalTime.{LocalTime}
 use Rattle.samples.specs.declared.Pair.{Pair}
@@ -38,9 +38,9 @@ limitsHold d s = leb shortestSpread s && leb s longestSpread && leb (natAbs d * 
 unfoldable pub gainOf : ℤ → ℕ → Gain
 gainOf rise s = cond (limitsHold (rise -ℤ pos s) s) (Within (rise -ℤ pos s)) Outside
 
--- floor(d × 2^35 / S)
+-- the nearest whole number to d × 2^35 / S, a half going up
 unfoldable pub rateOf : ℤ → ℕ → ℤ
-rateOf d s = floorDiv (d *ℤ pos parts) s
+rateOf d s = nearestDiv (d *ℤ pos parts) s
 
 -- floor(rate × u / 2^35)
 unfoldable pub scaledOf : ℤ → ℤ → ℤ

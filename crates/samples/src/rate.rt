@@ -41,12 +41,12 @@ pub fn gained(rise: u64, s: u64) -> Gain
     }
 }
 
-// The rate of a gain d over a spread s.
+// The rate of a gain d over a spread s, to the nearest part.
 pub fn rate(d: i64, s: u64) -> i64
     requires { ⌜ Limits d s ⌝ }
     ensures { λ r. ⌜ r ≡ rateOf d s ⌝ }
 {
-    whole::floor_div(whole::mul(d, ONE), s)
+    whole::nearest_div(whole::mul(d, ONE), s)
 }
 
 // What a clock of this rate gains over a stretch u.
