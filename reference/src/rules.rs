@@ -29,9 +29,10 @@ pub fn steady(difference: i128, local_spread: u64) -> bool {
         && difference.unsigned_abs() * STEADINESS <= u128::from(local_spread)
 }
 
-/// Gives the rate of a difference over a spread, rounded down.
+/// Gives the whole rate nearest to a difference over a spread, the upper one of two that are as near.
 pub fn rate(difference: i128, local_spread: u64) -> i128 {
-    (difference * RATE_ONE).div_euclid(i128::from(local_spread))
+    let run = i128::from(local_spread);
+    (2 * difference * RATE_ONE + run).div_euclid(2 * run)
 }
 
 /// Gives what a rate makes of a stretch of time, rounded down.

@@ -13,7 +13,8 @@ use crate::program::Program;
 use crate::ptp::{export, import, on_scale, Scale, NANOSECONDS_END, SECONDS_END};
 use crate::replay::Replay;
 use crate::rules::{
-    held_hop, link_delay, parts_per_million, rate, rated, sent_grand, steady, HOP_NONE,
+    held_hop, link_delay, parts_per_million, rate, rated, sent_grand, steady, HOP_NONE, RATE_ONE,
+    SPREAD_LEAST, SPREAD_MOST, STEADINESS,
 };
 use crate::samples::{Sample, Samples};
 use crate::stamps::Stamps;
@@ -27,17 +28,40 @@ const LAST: u64 = SECONDS_END - 1;
 /// More fractions than any nanosecond has, by document 02's figure.
 const NANOSECOND_MOST: u64 = 1_100;
 
-/// Rates of both signs go to the lower whole number.
+/// Rates of both signs go to the nearest whole number and halves to the upper one, and what a rate makes of a stretch goes to the lower one.
 #[test]
-fn rates_round_down() {
+fn rates_go_to_the_nearest() {
     assert_eq!(rate(1, 1 << 34), 2);
     assert_eq!(rated(2, 1 << 30), 0);
     assert_eq!(rated(2, -(1 << 30)), -1);
-    assert_eq!(rate(1, 1 << 36), 0);
-    assert_eq!(rate(-1, 1 << 36), -1);
-    assert_eq!(rate(1_000_000, 4_000_000_000), 8_589_934);
+    assert_eq!(rate(1, 1 << 36), 1);
+    assert_eq!(rate(-1, 1 << 36), 0);
+    assert_eq!(rate(3, 1 << 36), 2);
+    assert_eq!(rate(-3, 1 << 36), -1);
+    assert_eq!(rate(1, (1 << 36) + 1), 0);
+    assert_eq!(rate(-1, (1 << 36) - 1), -1);
+    assert_eq!(rate(1_000_000, 4_000_000_000), 8_589_935);
     assert_eq!(rate(-1_000_000, 4_000_000_000), -8_589_935);
     assert_eq!(parts_per_million(1 << 20), 30.517578125);
+}
+
+/// No whole number is nearer than a rate, none above it as near, and none is larger than document 02's limit.
+#[test]
+fn no_other_rate_is_nearer() {
+    let mut random = Random::new(3);
+    let runs = (1..=8).map(|steps: u64| steps << 36);
+    let some = (0..100_000).map(|_| random.within(SPREAD_LEAST, SPREAD_MOST));
+    let runs: Vec<u64> = runs.chain(some).collect();
+    for run in runs {
+        let most = run / STEADINESS as u64;
+        let nearby = random.about(8);
+        for difference in [random.about(most), nearby, most as i128, -(most as i128)] {
+            let found = rate(difference, run);
+            let off = |rate: i128| (rate * i128::from(run) - difference * RATE_ONE).abs();
+            assert!(off(found) <= off(found - 1) && off(found) < off(found + 1));
+            assert!(found.abs() <= 8_589_935);
+        }
+    }
 }
 
 /// Spreads and differences are taken up to their last value.
@@ -171,7 +195,7 @@ const RATE_0: Line = Line {
     difference: 0,
 };
 const RATE_MINUS_1: Line = Line {
-    spread: 1 << 36,
+    spread: 1 << 35,
     difference: -1,
 };
 
@@ -379,7 +403,7 @@ fn latches_are_turned_into_twelve_digits() {
     assert_eq!(stamper.census.missing().len(), 8);
 }
 
-/// Every stamp in generated lives is less than 17 U from the line through the chosen clock's two samples.
+/// Every stamp in generated lives is less than 9 U from the line through the chosen clock's two samples.
 #[test]
 fn stamps_lie_near_the_line() {
     let mut stamps = 0;
@@ -394,7 +418,7 @@ fn stamps_lie_near_the_line() {
         let rise = newer.grand as i128 - older.grand as i128;
         let risen = stamp - newer.grand as i128;
         let off = risen * run - rise * distance(latch, newer.local);
-        assert!(off.abs() < 17 * run);
+        assert!(off.abs() < 9 * run);
         stamps += 1;
         Ok(())
     });

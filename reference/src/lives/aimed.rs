@@ -32,6 +32,8 @@ const DELAY_EDGES: [u64; 6] = [
 ];
 /// The greatest spread over a difference that is still kept.
 const KEPT: u64 = 4_000;
+/// The spread that every spread with a rate halfway between two whole ones is a multiple of.
+const HALF_RUN: u64 = 1 << 36;
 
 /// What is planned for the next frame of each port.
 struct Plans {
@@ -142,7 +144,7 @@ fn next_delay(random: &mut Random) -> u64 {
 /// Gives the way to the next arrival, such that spreads of arrivals or of samples are at a limit.
 fn aim_way(random: &mut Random, delay: u64, next_delay: u64) -> i128 {
     let samples_apart = i128::from(next_delay) - i128::from(delay);
-    match random.below(17) {
+    match random.below(20) {
         0 | 1 => i128::from(random.pick(&SPREAD_EDGES)) + samples_apart,
         2 => i128::from(random.pick(&SPREAD_EDGES)),
         3 | 8 => i128::from(random.within(1 << 19, 1 << 27) * KEPT) + samples_apart,
@@ -150,19 +152,58 @@ fn aim_way(random: &mut Random, delay: u64, next_delay: u64) -> i128 {
         5 => i128::from(random.within(1 << 19, 1 << 27) * (KEPT - 1)),
         6 => i128::from(random.below(LOCAL_END)),
         7 => i128::from(random.sized(41)),
+        17 | 18 => i128::from(half_run(random)) + samples_apart,
+        19 => {
+            let run = half_run(random);
+            i128::from(run) + half_difference(random, run)
+        }
         _ => i128::from(random.within(SPREAD_LEAST, SPREAD_MOST)),
     }
 }
 
-/// Gives a departure of the neighbour, such that its rate is at a limit or usual.
+/// Gives a spread over which some differences have a rate halfway between two whole ones.
+fn half_run(random: &mut Random) -> u64 {
+    HALF_RUN * random.within(1, SPREAD_MOST / HALF_RUN)
+}
+
+/// Gives a difference whose rate over such a spread is halfway: for each part of the spread an odd number.
+fn half_difference(random: &mut Random, run: u64) -> i128 {
+    let odd = 2 * random.about(HALF_RUN / KEPT / 2 - 1) + 1;
+    i128::from(run / HALF_RUN) * odd
+}
+
+/// Gives a departure of the neighbour, such that its rate is halfway, at a limit or usual.
 fn aim_local(random: &mut Random, port: &Port, p: u64) -> u64 {
     let Some((old_local, old_p)) = port.record.pair else {
         return start_local(random);
     };
     let way = spread(p, old_p);
+    let local_spread = match halfway_run(way) {
+        Some(run) if random.often(800) => i128::from(run),
+        _ => aim_run(random, way),
+    };
+    moved(old_local, local_spread)
+}
+
+/// Gives the neighbour's spread over which a spread of arrivals has a halfway rate, where there is one.
+fn halfway_run(way: u64) -> Option<u64> {
+    let run = way.next_multiple_of(HALF_RUN);
+    let run = if run - way > HALF_RUN / 2 {
+        run - HALF_RUN
+    } else {
+        run
+    };
+    let difference = i128::from(way) - i128::from(run);
+    let parts = i128::from(run / HALF_RUN);
+    let odd = |difference: i128| difference % parts == 0 && difference / parts % 2 != 0;
+    (rules::steady(difference, run) && odd(difference)).then_some(run)
+}
+
+/// Gives the neighbour's spread for a spread of arrivals, such that its rate is at a limit or usual.
+fn aim_run(random: &mut Random, way: u64) -> i128 {
     let longest = u128::from(way) * u128::from(KEPT) / u128::from(KEPT - 1);
     let shortest = u128::from(way) * u128::from(KEPT) / u128::from(KEPT + 1);
-    let local_spread = match random.below(12) {
+    match random.below(12) {
         0 => i128::from(way),
         1 | 2 => longest as i128 + random.about(1),
         3 | 4 => shortest as i128 + random.about(1),
@@ -170,8 +211,7 @@ fn aim_local(random: &mut Random, port: &Port, p: u64) -> u64 {
         6 => i128::from(random.below(LOCAL_END)),
         7 => i128::from(way) + random.about(2),
         _ => i128::from(way) + random.about(way / KEPT),
-    };
-    moved(old_local, local_spread)
+    }
 }
 
 /// Gives the neighbour's echo, such that trip, turn or delay is at a limit or usual.
@@ -266,6 +306,7 @@ fn aim_grand(random: &mut Random, samples: &Samples, local: u64) -> u128 {
     let local_spread = spread(local, newest.local);
     let most = i128::from(local_spread / KEPT);
     let difference = match random.below(14) {
+        8.. if local_spread.is_multiple_of(HALF_RUN) => half_difference(random, local_spread),
         0 => 0,
         1 => most,
         2 => most + 1,

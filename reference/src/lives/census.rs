@@ -1,16 +1,17 @@
-//! Counts how often each call gave each answer, how the frames that were taken came by their held hops, and where scales left their range.
+//! Counts how often each call gave each answer, how the frames that were taken came by their held hops, which way rates were rounded, and where scales left their range.
 
 use super::latches;
 use super::pen::answer_of;
 use crate::answer::{
     Answer, BAD_LINE, BEYOND_RANGE, DONE, NO_CLOCK, OUT_OF_RANGE, OUT_OF_REACH, TOO_FEW_SAMPLES,
 };
-use crate::bridge::Listed;
+use crate::bridge::{Listed, OWN, PORTS_MOST};
 use crate::frame::AT_HOP;
 use crate::hex;
 use crate::ptp::SECONDS_END;
-use crate::rules::HOP_NONE;
-use crate::times::{distance, is_local};
+use crate::rules::{self, HOP_NONE, RATE_ONE};
+use crate::samples::Samples;
+use crate::times::{distance, is_local, spread};
 use std::cmp::Ordering;
 use std::fmt;
 
@@ -147,6 +148,109 @@ fn way(chosen: u8, hop: u8) -> usize {
     }
 }
 
+/// Which way a rate goes to a whole number: not at all, down, up, and up from a half, above zero or below it.
+const TURNS: [&str; 5] = ["exact", "down", "up", "half above", "half below"];
+const EXACT: usize = 0;
+const DOWN: usize = 1;
+const UP: usize = 2;
+const HALF_ABOVE: usize = 3;
+const HALF_BELOW: usize = 4;
+/// Whose rates are counted: those of the clocks that are heard, and those of the neighbours that delays are measured by.
+const RATED: [&str; 2] = ["clocks", "neighbours"];
+const CLOCKS: usize = 0;
+const NEIGHBOURS: usize = 1;
+
+/// Counts of the rates that each line that was taken brought, by the way in which they are rounded.
+#[derive(Default)]
+pub struct RateCensus {
+    pairs: [Option<(u64, u64)>; PORTS_MOST],
+    counts: [[u64; TURNS.len()]; RATED.len()],
+}
+
+impl RateCensus {
+    /// Counts what a line brought, where it was taken, and notes the pairs after it.
+    fn count(&mut self, line: &[u8], reply: &[u8], bridge: &Listed) {
+        if let Some(port) = sampled_port(line).filter(|_| answer_of(reply) == DONE) {
+            if let Some((older, newer)) = bridge.samples(port).and_then(Samples::both) {
+                let difference = rules::sample_difference(older.point(), newer.point());
+                let run = spread(newer.local, older.local);
+                self.counts[CLOCKS][turn(difference, run)] += 1;
+            }
+            self.count_neighbour(port, bridge);
+        }
+        for (pair, port) in self.pairs.iter_mut().zip(&bridge.ports) {
+            *pair = port.record.pair;
+        }
+    }
+
+    /// Counts the rate of the neighbour at a port whose delay is measured, where it has one.
+    fn count_neighbour(&mut self, port: u8, bridge: &Listed) {
+        let Some(place) = usize::from(port).checked_sub(1) else {
+            return;
+        };
+        let measured = bridge.ports.get(place).filter(|port| port.fixed.is_none());
+        let pairs = self.pairs[place].zip(measured.and_then(|port| port.record.pair));
+        let Some(((old_local, old_arrival), (local, arrival))) = pairs else {
+            return;
+        };
+        let run = spread(local, old_local);
+        let difference = i128::from(spread(arrival, old_arrival)) - i128::from(run);
+        if rules::steady(difference, run) {
+            self.counts[NEIGHBOURS][turn(difference, run)] += 1;
+        }
+    }
+
+    /// Gives the ways of rounding that were never seen, each with whose rate it is.
+    fn missing(&self) -> Vec<String> {
+        let mut missing = Vec::new();
+        for (rated, row) in RATED.iter().zip(&self.counts) {
+            for (turn, count) in TURNS.iter().zip(row) {
+                if *count == 0 {
+                    missing.push(format!("{rated} {turn}"));
+                }
+            }
+        }
+        missing
+    }
+}
+
+impl fmt::Display for RateCensus {
+    /// Prints a row for whose rates they are with a column for each way of rounding.
+    fn fmt(&self, out: &mut fmt::Formatter) -> fmt::Result {
+        for (rated, row) in RATED.iter().zip(&self.counts) {
+            write!(out, "rates of {rated}")?;
+            for (turn, count) in TURNS.iter().zip(row) {
+                write!(out, ", {turn} {count}")?;
+            }
+            writeln!(out)?;
+        }
+        writeln!(out, "rates missing {:?}", self.missing())
+    }
+}
+
+/// Gives the port whose clock a line brings a sample of.
+fn sampled_port(line: &[u8]) -> Option<u8> {
+    let mut fields = line.split(|letter| *letter == b' ');
+    match fields.next()? {
+        b"O" => Some(OWN),
+        b"R" => u8::try_from(hex::number(fields.next()?)?).ok(),
+        _ => None,
+    }
+}
+
+/// Gives the way in which the rate of a difference over a spread is rounded.
+fn turn(difference: i128, local_spread: u64) -> usize {
+    let run = i128::from(local_spread);
+    let past_floor = (2 * difference * RATE_ONE).rem_euclid(2 * run);
+    match past_floor.cmp(&run) {
+        _ if past_floor == 0 => EXACT,
+        Ordering::Less => DOWN,
+        Ordering::Greater => UP,
+        Ordering::Equal if difference > 0 => HALF_ABOVE,
+        Ordering::Equal => HALF_BELOW,
+    }
+}
+
 /// The letters of the lines of timestamps and scales.
 const TIMESTAMP_LETTERS: [u8; 5] = *b"XIGUN";
 /// What each of them should answer at the least.
@@ -249,6 +353,7 @@ pub struct Census {
     no_parts: u64,
     stamps: StampCensus,
     hops: HopCensus,
+    rates: RateCensus,
     timestamps: TimestampCensus,
 }
 
@@ -257,6 +362,7 @@ impl Census {
     pub fn count(&mut self, line: &[u8], reply: &[u8], bridge: &Listed) {
         self.lines += 1;
         self.hops.count(line, reply, bridge);
+        self.rates.count(line, reply, bridge);
         self.timestamps.count(line, reply);
         if reply == b"0E" {
             self.bad += 1;
@@ -299,6 +405,7 @@ impl Census {
         self.missing().is_empty()
             && self.stamps.missing().is_empty()
             && self.hops.missing().is_empty()
+            && self.rates.missing().is_empty()
             && self.timestamps.missing().is_empty()
             && self.stamps.counts[NOWHERE][usize::from(OUT_OF_RANGE)] > 0
     }
@@ -327,7 +434,7 @@ impl fmt::Display for Census {
         )?;
         writeln!(out, "B    part {}, none {}", self.parts, self.no_parts)?;
         writeln!(out, "D    readings {}", self.readings)?;
-        write!(out, "{}", self.hops)?;
+        write!(out, "{}{}", self.hops, self.rates)?;
         writeln!(out, "no call (14) {}", self.bad)?;
         writeln!(out, "lines {}", self.lines)?;
         writeln!(out, "answers missing {:?}", self.missing())
