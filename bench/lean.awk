@@ -59,7 +59,7 @@ FNR == 1 { panel++ }
 END {
     REACH = 500; TALL = 20; WIDTH = 400; HEIGHT = 300; TOP = 46; PARTS = 10
     LEFT[1] = 46; LEFT[2] = 502; BOUND[1] = bound_before; BOUND[2] = bound
-    TITLE[1] = "rates rounded down, the landing before"; TITLE[2] = "rates rounded to the nearest"
+    TITLE[1] = "rates rounded down, before C-15"; TITLE[2] = "rates rounded to the nearest, from C-15 on"
     print "<svg xmlns=\"http://www.w3.org/2000/svg\" viewBox=\"0 0 920 390\" font-family=\"sans-serif\" fill=\"#222\">"
     print "<title>How far sent grand time lies from the exact line</title>"
     printf "<desc>%d sends in each panel, by bench/lean: the difference in U over the distance of the reading from the newer sample.</desc>\n", count[1]
