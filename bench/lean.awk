@@ -5,9 +5,11 @@
 function across(ms) { return LEFT[panel] + (ms + REACH) / (2 * REACH) * WIDTH }
 function down(units) { return TOP + (TALL - units) / (2 * TALL) * HEIGHT }
 
+# Puts words at a place.
 function text(x, y, anchor, size, words) {
     printf "<text x=\"%.1f\" y=\"%.1f\" text-anchor=\"%s\" font-size=\"%d\">%s</text>\n", x, y, anchor, size, words
 }
+# Draws a line across the panel at an error.
 function level(units, class) {
     printf "<path class=\"%s\" d=\"M%.1f %.1fh%d\"/>\n", class, LEFT[panel], down(units), WIDTH
 }
@@ -34,6 +36,7 @@ function bounds(    other) {
     text(LEFT[panel] + WIDTH - 6, down(BOUND[panel]) - 4, "end", 12, "less than " BOUND[panel] " U")
 }
 
+# A dot for each send.
 function points(    i) {
     printf "<path class=\"points\" d=\""
     for (i = 1; i <= count[panel]; i++) printf "M%.1f %.1fh0", across(ms[panel, i]), down(off[panel, i])
@@ -43,7 +46,7 @@ function points(    i) {
 # The mean of the points in each tenth of the panel.
 function mean(    i, part, sum, many) {
     for (i = 1; i <= count[panel]; i++) {
-        part = int((ms[panel, i] + REACH) / (2 * REACH) * PARTS)
+        part = ms[panel, i] < REACH ? int((ms[panel, i] + REACH) / (2 * REACH) * PARTS) : PARTS - 1
         sum[part] += off[panel, i]
         many[part]++
     }

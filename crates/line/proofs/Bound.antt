@@ -75,7 +75,7 @@ bound-least k within =
       newest = record { seconds = lit< tt; fraction = lit< tt };
       limits = record { low = lit≤ tt; high = lit≤ tt; near = lit≤ tt };
     } in
-    let off : 17 * 2 ^ 35 - 1 < k * 2 ^ 36 = within older newer before ends (lit≤ tt) in
+    let off : 8 * 2 ^ 36 + 2 ^ 35 - 1 < k * 2 ^ 36 = within older newer before ends (lit≤ tt) in
     omega (arith, off)
 
 -- ---- the line passes through both samples
