@@ -20,7 +20,7 @@ pub const TIMEOUT_DEFAULT: u64 = 1 << 39;
 /// The greatest back time that can be set.
 pub const BACK_MOST: u64 = (1 << 39) - 1;
 /// The back time where none is given.
-pub const BACK_DEFAULT: u64 = 10_995_116_278;
+pub const BACK_DEFAULT: u64 = 16_492_674_417;
 /// The number that stands for the station's own clock.
 pub const OWN: u8 = 0;
 

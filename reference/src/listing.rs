@@ -13,6 +13,8 @@ pub const LINE_DIGITS: usize = PORT_DIGITS + LOCAL_DIGITS + 2 * FRAME_LEN;
 const PORT_DIGITS: usize = 2;
 const PORTS: u8 = 2;
 const BOTH_LINKS: u8 = 3;
+/// The back time of 10 ms that the listing gives.
+const BACK: u64 = 10_995_116_278;
 
 /// A bridge of two ports that lines are read to.
 #[derive(Clone, Copy, Debug)]
@@ -28,6 +30,7 @@ impl<C: Calls> Program for Listing<C> {
     fn on(mut bridge: C) -> Self {
         let plan = Plan {
             ports: PORTS,
+            back: Some(BACK),
             ..Plan::default()
         };
         bridge.setup(&plan);

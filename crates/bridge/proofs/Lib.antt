@@ -10,3 +10,4 @@ pub mod Counts
 pub mod Hops
 pub mod Unique
 pub mod Exact
+pub mod Defaults

@@ -11,12 +11,12 @@ use Rattle.bridge.specs.State.{stateOf, answers}
 use Rattle.bridge.specs.declared.Bridge.{Bridge}
 use Rattle.bridge.specs.declared.Done.{Done}
 
--- the defaults: a timeout of half a second, a backTime of 10 ms
+-- the defaults: a timeout of half a second, a backTime of 15 ms
 abbrev pub defaultTimeout : ℕ
 defaultTimeout = 2 ^ 39
 
 abbrev pub defaultBack : ℕ
-defaultBack = 10995116278
+defaultBack = 16492674417
 
 -- all links are down and all records empty
 abbrev pub freshOf : Setup → Bridge

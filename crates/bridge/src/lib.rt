@@ -23,10 +23,10 @@ use table::records;
 use times::GrandTime;
 use times::LocalTime;
 
-// The default timeout, half a second, and the default backTime, 10 ms.
+// The default timeout, half a second, and the default backTime, 15 ms.
 pub const DEFAULT_TIMEOUT: u64 = 0x80_0000_0000;
 
-pub const DEFAULT_BACK: u64 = 10_995_116_278;
+pub const DEFAULT_BACK: u64 = 16_492_674_417;
 
 // The whole state: what Setup was given, the links, the own clock's record and the ports' records.
 pub struct Bridge {

@@ -8,7 +8,7 @@ use Rattle.numbers.specs.Digits.{numberAt}
 use Rattle.choice.specs.Choose.{shownPort, shownHop}
 use Rattle.choice.specs.declared.Candidate.{Candidate}
 use Rattle.table.specs.Fits.{plainSetup}
-use Rattle.bridge.specs.Setup.{defaultTimeout, defaultBack, setupOf}
+use Rattle.bridge.specs.Setup.{defaultTimeout, setupOf}
 use Rattle.bridge.specs.Links.{linksOf}
 use Rattle.bridge.specs.Chosen.{chosenOf}
 use Rattle.bridge.specs.Receive.{receiveOf}
@@ -18,15 +18,18 @@ use Rattle.hex.specs.Digit.{exactly, pairs}
 use Rattle.columns.specs.Columns.{line3}
 use Rattle.answer.specs.Answer.{Answer, says}
 
--- the listing's bridge: two measured ports, both linked, not capable, the default times; address and own precedence can't show
+-- the listing's bridge: two measured ports, both linked, not capable, the default timeout, a backTime of 10 ms; address and own precedence can't show
 abbrev pub listingPorts : ℕ
 listingPorts = 2
 
 abbrev pub bothLinked : ℕ
 bothLinked = 3
 
+abbrev pub listingBack : ℕ
+listingBack = 10995116278
+
 unfoldable pub startOf : Bridge
-startOf = linksOf (setupOf (plainSetup listingPorts defaultTimeout defaultBack) .next) bothLinked .next
+startOf = linksOf (setupOf (plainSetup listingPorts defaultTimeout listingBack) .next) bothLinked .next
 
 -- the digits of a line
 abbrev pub lineDigits : ℕ

@@ -13,10 +13,12 @@ use choice::candidates;
 use hex::digits;
 use table::records;
 
-// The listing's bridge: two ports, both linked.
+// The listing's bridge: two ports, both linked, and a backTime of 10 ms, which is not the default.
 const PORTS: u8 = 2;
 
 const BOTH_LINKED: u8 = 3;
+
+const BACK: u64 = 10_995_116_278;
 
 // The digits of a line.
 const LINE_DIGITS: usize = 142;
@@ -35,11 +37,7 @@ pub fn start() -> Bridge
     ensures { λ r. ⌜ r ≡ startOf ⌝ }
     ensures { λ r. ⌜ Lawful r ⌝ }
 {
-    let first = bridge::setup(records::plain_setup(
-        PORTS,
-        bridge::DEFAULT_TIMEOUT,
-        bridge::DEFAULT_BACK,
-    ));
+    let first = bridge::setup(records::plain_setup(PORTS, bridge::DEFAULT_TIMEOUT, BACK));
     let down = first.next;
     let linked = bridge::links(down, BOTH_LINKED);
     linked.next

@@ -1,4 +1,5 @@
 pub mod Bound
 pub mod Chain
+pub mod Jitter
 pub mod SentLaws
 pub mod PpmLaws

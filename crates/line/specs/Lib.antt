@@ -1,3 +1,4 @@
 pub mod Line
 pub mod Sent
 pub mod Drift
+pub mod Jitter

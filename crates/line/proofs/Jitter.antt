@@ -1,0 +1,37 @@
+-- By how much arrivals may jitter for every reading of Send to lie between its samples: that much, and no more. Between them the line is off by no more than its samples are.
+use mathlib.Core.Path.{_≡_, sym, _∙_}
+use Prim.Native.Nat.{ℕ, _+_, _-_, _*_, _≤_}
+use native.Mathlib.Omega.{arith}
+use lib.IntN.{ℤ, pos, negℤ, natAbs, _-ℤ_}
+use Rattle.samples.specs.Keep.{spreadOf}
+use Rattle.samples.specs.declared.Sample.{Sample}
+use Rattle.line.specs.Line.{lineAt, offOf}
+use Rattle.line.specs.Sent.{reachOf}
+use Rattle.line.specs.Jitter.{Between, AlwaysBetween}
+use Rattle.numbers.proofs.Ring.{same, neg-pos, minus-is}
+use Rattle.line.proofs.Chain.{between-samples}
+
+module _ (due interval jitter back : ℕ) where
+  pub jitter-between : due + jitter ≤ back → back + jitter ≤ due + interval → AlwaysBetween due interval jitter back
+  jitter-between after before elapsed spread j = (omega (arith, j .newer .0), omega (arith, j .older .1))
+
+  -- a newer sample that is early by the jitter, and an older one that is late by it
+  pub jitter-most : AlwaysBetween due interval jitter back → (due + jitter ≤ back) × (back + jitter ≤ due + interval)
+  jitter-most between =
+      let early = between (due + jitter) (interval - jitter) (record { newer = (omega arith, omega arith); older = (omega arith, omega arith) }) in
+      let late = between due (interval - jitter) (record { newer = (omega arith, omega arith); older = (omega arith, omega arith) }) in
+      (early .0, omega (arith, early .0, late .1))
+
+  -- no backTime is always read between the samples at a jitter of more than half an interval
+  pub jitter-half : AlwaysBetween due interval jitter back → jitter + jitter ≤ interval
+  jitter-half between = omega (arith, jitter-most between .0, jitter-most between .1)
+
+-- what lying between the samples is good for: where each of them is off by at most m, so is the line that Send reads, both sides times S
+pub sent-between : (a b a' b' : Sample) (m elapsed back : ℕ) → a' .local ≡ a .local → b' .local ≡ b .local
+    → natAbs (offOf a a') ≤ m → natAbs (offOf b b') ≤ m → Between elapsed (spreadOf a b) back
+    → natAbs (lineAt a' b' (reachOf elapsed back) -ℤ lineAt a b (reachOf elapsed back)) ≤ spreadOf a b * m
+sent-between a b a' b' m elapsed back older newer h0 h1 between =
+    rw before (between-samples a b a' b' older newer m (back - elapsed) h0 h1 (omega (arith, between .1)))
+  where
+    before : reachOf elapsed back ≡ negℤ (pos (back - elapsed))
+    before = minus-is elapsed back ∙ same elapsed back 0 (back - elapsed) (omega (arith, between .0)) ∙ sym (neg-pos (back - elapsed))
