@@ -1,15 +1,20 @@
--- Laws of the lines of a capture: what a text is answered with by whether it is one.
-use mathlib.Core.Path.{_≡_, ap, _∙_}
+-- Laws of the lines of a capture: what a text is answered with by whether it is one. The listing's backTime is 10 ms.
+use mathlib.Core.Path.{_≡_, refl, ap, _∙_}
 use mathlib.Core.Bool.{true, false}
 use mathlib.Core.List.{List}
 use Prim.Native.Nat.{ℕ, _<_}
+use lib.IntN.{pos}
 use lib.ListN.{length}
 use Rattle.refusals.specs.Refusals.{badLine}
 use Rattle.bridge.specs.declared.Bridge.{Bridge}
 use Rattle.bridge.specs.declared.Done.{Done}
-use Rattle.capture.specs.Capture.{lineDigits, isLine, listedAs, capturedOf, doneOf, listedOf}
+use Rattle.capture.specs.Capture.{listingBack, lineDigits, isLine, listedAs, capturedOf, doneOf, listedOf}
 use Rattle.numbers.proofs.Branches.{if-true, if-false}
+use Rattle.bridge.proofs.Defaults.{milliseconds}
 use Rattle.hex.proofs.DigitLaws.{exactly-long}
+
+pub listing-back-is : pos listingBack ≡ milliseconds 10
+listing-back-is = refl
 
 module _ (b : Bridge) (s : List ℕ) where
   pub listed-bad : isLine s ≡ false → listedAs b badLine ≡ listedOf b s

@@ -15,12 +15,18 @@ module _ (due interval jitter back : ℕ) where
   pub jitter-between : due + jitter ≤ back → back + jitter ≤ due + interval → AlwaysBetween due interval jitter back
   jitter-between after before elapsed spread j = (omega (arith, j .newer .0), omega (arith, j .older .1))
 
-  -- a newer sample that is early by the jitter, and an older one that is late by it
+  -- by a newer sample that is early by the jitter, and by an older one that is late by it
   pub jitter-most : AlwaysBetween due interval jitter back → (due + jitter ≤ back) × (back + jitter ≤ due + interval)
-  jitter-most between =
-      let early = between (due + jitter) (interval - jitter) (record { newer = (omega arith, omega arith); older = (omega arith, omega arith) }) in
-      let late = between due (interval - jitter) (record { newer = (omega arith, omega arith); older = (omega arith, omega arith) }) in
-      (early .0, omega (arith, early .0, late .1))
+  jitter-most between = (early .0, omega (arith, early .0, late .1))
+    where
+      nearer : (elapsed : ℕ) → due ≤ elapsed → elapsed ≤ due + jitter → Between elapsed (interval - jitter) back
+      nearer elapsed l h = between elapsed (interval - jitter) (record { newer = (h, omega arith); older = (omega arith, omega arith) })
+
+      early : Between (due + jitter) (interval - jitter) back
+      early = nearer (due + jitter) (omega arith) (omega arith)
+
+      late : Between due (interval - jitter) back
+      late = nearer due (omega arith) (omega arith)
 
   -- no backTime is always read between the samples at a jitter of more than half an interval
   pub jitter-half : AlwaysBetween due interval jitter back → jitter + jitter ≤ interval

@@ -1,15 +1,15 @@
 -- Samples of frames that are due at a steady interval and come earlier or later, and what it is that a reading lies between them.
 use Prim.Native.Nat.{ℕ, _+_, _≤_}
 
--- a and b are at most j apart
-abbrev pub Apart : ℕ → ℕ → ℕ → Type 0
-Apart j a b = (a ≤ b + j) × (b ≤ a + j)
+-- a and b lie at most j from each other
+abbrev pub Within : ℕ → ℕ → ℕ → Type 0
+Within j a b = (a ≤ b + j) × (b ≤ a + j)
 
 -- the newer sample was due so long before a departure, the older one an interval before that; neither lies farther than the jitter from where it was due.
 -- elapsed is from the newer sample to the departure, spread from the older to the newer one
 pub record Jittered (due interval jitter elapsed spread : ℕ) : Type 0 where
-  pub newer : Apart jitter elapsed due
-  pub older : Apart jitter (elapsed + spread) (due + interval)
+  pub newer : Within jitter elapsed due
+  pub older : Within jitter (elapsed + spread) (due + interval)
 
 -- backTime before the departure lies between the two samples, or at one of them
 abbrev pub Between : ℕ → ℕ → ℕ → Type 0
