@@ -7,7 +7,7 @@ use Rattle.samples.specs.Keep.{spreadOf}
 use Rattle.samples.specs.declared.Sample.{Sample}
 use Rattle.line.specs.Line.{lineAt, offOf}
 use Rattle.line.specs.Sent.{reachOf}
-use Rattle.line.specs.Jitter.{Between, AlwaysBetween}
+use Rattle.line.specs.Jitter.{Between, AlwaysBetween, dueOf, CallBetween}
 use Rattle.numbers.proofs.Ring.{same, neg-pos, minus-is}
 use Rattle.line.proofs.Chain.{between-samples}
 
@@ -29,8 +29,26 @@ module _ (due interval jitter back : ℕ) where
       late = nearer due (omega arith) (omega arith)
 
   -- no backTime is always read between the samples at a jitter of more than half an interval
-  pub jitter-half : AlwaysBetween due interval jitter back → jitter + jitter ≤ interval
+  pub jitter-half : AlwaysBetween due interval jitter back → jitter * 2 ≤ interval
   jitter-half between = omega (arith, jitter-most between .0, jitter-most between .1)
+
+-- calls that come wait after a departure, and no later than the next one: some age of the last frame heard will do exactly if twice the jitter
+-- is at most interval - |wait + back - 2 × interval|, said as two inequalities
+module _ (interval jitter back wait : ℕ) (soon : wait ≤ interval) where
+  abbrev pub goodAge : ℕ
+  goodAge = jitter + (wait + back - interval * 2)
+
+  pub call-between : interval + jitter * 2 ≤ wait + back → wait + back + jitter * 2 ≤ interval * 3 → CallBetween interval jitter back wait goodAge
+  call-between low high = record {
+    came = omega arith;
+    next = omega arith;
+    between = jitter-between (dueOf interval wait goodAge) interval jitter back (omega (arith, low, high, soon)) (omega (arith, low, high, soon));
+  }
+
+  pub call-most : (age : ℕ) → CallBetween interval jitter back wait age → (interval + jitter * 2 ≤ wait + back) × (wait + back + jitter * 2 ≤ interval * 3)
+  call-most age c =
+      let most = jitter-most (dueOf interval wait age) interval jitter back (c .between) in
+      (omega (arith, soon, c .came, most .0), omega (arith, soon, c .next, most .1))
 
 -- what lying between the samples is good for: where each of them is off by at most m, so is the line that Send reads, both sides times S
 pub sent-between : (a b a' b' : Sample) (m elapsed back : ℕ) → a' .local ≡ a .local → b' .local ≡ b .local

@@ -1,5 +1,5 @@
 -- Samples of frames that are due at a steady interval and come earlier or later, and what it is that a reading lies between them.
-use Prim.Native.Nat.{ℕ, _+_, _≤_}
+use Prim.Native.Nat.{ℕ, _+_, _-_, _≤_}
 
 -- a and b lie at most j from each other
 abbrev pub Within : ℕ → ℕ → ℕ → Type 0
@@ -18,3 +18,14 @@ Between elapsed spread back = (elapsed ≤ back) × (back ≤ elapsed + spread)
 -- wherever the jitter puts the samples, the reading lies between them
 abbrev pub AlwaysBetween : ℕ → ℕ → ℕ → ℕ → Type 0
 AlwaysBetween due interval jitter back = (elapsed spread : ℕ) → Jittered due interval jitter elapsed spread → Between elapsed spread back
+
+-- where the newer sample was due, before the departure: Send is called wait after the departure, the last frame heard was due age before the call,
+-- and the newer sample is that of the frame before it
+abbrev pub dueOf : ℕ → ℕ → ℕ → ℕ
+dueOf interval wait age = interval + age - wait
+
+-- whatever the jitter, that last frame has come by the call, the next one comes no earlier than the call, and the reading lies between the samples
+pub record CallBetween (interval jitter back wait age : ℕ) : Type 0 where
+  pub came : jitter ≤ age
+  pub next : age + jitter ≤ interval
+  pub between : AlwaysBetween (dueOf interval wait age) interval jitter back
