@@ -6,6 +6,7 @@ use crate::byvalue::{Flat, Handed};
 use crate::listing::Listing;
 use crate::lives::census::{Census, TimestampCensus};
 use crate::lives::latches;
+use crate::lives::limits;
 use crate::lives::lives;
 use crate::lives::random::Random;
 use crate::lives::stamped::Stamper;
@@ -411,7 +412,7 @@ fn stamps_lie_near_the_line() {
         let (Some(latch), Some(stamp)) = (latches::called(line), stamp_of(reply)) else {
             return Ok(());
         };
-        let Some((older, newer)) = latches::followed(bridge).both() else {
+        let Some((older, newer)) = limits::followed(bridge).both() else {
             return Err(std::io::Error::other("a stamp without two samples"));
         };
         let run = i128::from(spread(newer.local, older.local));

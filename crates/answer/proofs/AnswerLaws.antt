@@ -2,12 +2,8 @@
 use mathlib.Core.Path.{_≡_, subst}
 use mathlib.Core.List.{List}
 use Prim.Native.Nat.{ℕ}
-use Rattle.columns.specs.Columns.{Prints}
 use Rattle.answer.specs.Answer.{Answer, Says}
 use Rattle.answer.specs.declared.Answered.{Answered}
 
 pub as-says : {want other : Answer} {got : Answered} {was left : List ℕ} → want ≡ other → Says want got was left → Says other got was left
 as-says {got = got} {was = was} {left = left} e s = subst (λ (w : Answer). Says w got was left) e s
-
-pub as-prints : {want other : List ℕ} {len : ℕ} {was left : List ℕ} → want ≡ other → Prints want len was left → Prints other len was left
-as-prints {len = len} {was = was} {left = left} e s = subst (λ (w : List ℕ). Prints w len was left) e s

@@ -7,11 +7,11 @@ use Rattle.choice.specs.Rank.{inNumbers, CandidateFits, Ranks, lesserOf}
 use Rattle.choice.specs.declared.Candidate.{Candidate}
 use Rattle.choice.specs.declared.Rank.{Rank}
 use Rattle.port.specs.Record.{emptyPort}
-use Rattle.table.specs.Table.{portAt, candidatesFrom, bestOf}
+use Rattle.bridge.specs.Table.{portAt, candidatesFrom, bestOf}
 use Rattle.bridge.specs.Chosen.{chosenOf}
 use Rattle.bridge.specs.declared.Bridge.{Bridge}
 use Rattle.choice.proofs.RankLaws.{better-rank}
-use Rattle.table.proofs.TableLaws.{best-turn, best-end}
+use Rattle.bridge.proofs.TableLaws.{best-turn, best-end}
 
 module _ (b : Bridge) where
   -- where a walk over the records stands at k

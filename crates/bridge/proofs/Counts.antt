@@ -8,16 +8,16 @@ use borrow.Author.Tests.{eqb-true, eqb-false}
 use lib.Dec.{eqb, leb}
 use lib.ListN.{length, set}
 use lib.Seq.{getD-set-same, getD-set-other}
-use Rattle.numbers.specs.Digits.{numberAt}
+use Rattle.numbers.specs.Bytes.{numberAt}
 use Rattle.times.specs.Times.{circle}
 use Rattle.frame.specs.Read.{readOf}
 use Rattle.frame.specs.declared.Reading.{Reading}
 use Rattle.frame.specs.declared.Reading.the-variants as Readings
 use Rattle.port.specs.Record.{emptyPort, agedPort, usedPort}
 use Rattle.port.specs.declared.Port.{Port}
-use Rattle.table.specs.Table.{portAt, mostPorts, relinkedPort}
-use Rattle.table.specs.Arguments.{bit, portRefusal, sendRefusal, ownClockRefusal, maskBeyond}
-use Rattle.table.specs.declared.Setup.{Setup}
+use Rattle.bridge.specs.Table.{portAt, mostPorts, relinkedPort}
+use Rattle.bridge.specs.Arguments.{bit, portRefusal, sendRefusal, ownClockRefusal, maskBeyond}
+use Rattle.bridge.specs.declared.Setup.{Setup}
 use Rattle.bridge.specs.Setup.{setupOf}
 use Rattle.bridge.specs.Links.{linksOf}
 use Rattle.bridge.specs.Own.{ownClockOf}

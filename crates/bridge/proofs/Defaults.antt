@@ -6,9 +6,9 @@ use lib.Dec.{lit≤}
 use lib.IntN.{ℤ, pos}
 use Rattle.numbers.specs.Whole.{nearestDiv}
 use Rattle.times.specs.Times.{second}
-use Rattle.line.specs.Jitter.{AlwaysBetween, CallBetween}
+use Rattle.timeline.specs.Jitter.{AlwaysBetween, CallBetween}
 use Rattle.bridge.specs.Setup.{defaultBack}
-use Rattle.line.proofs.Jitter.{jitter-between, jitter-most, goodAge, call-between, call-most}
+use Rattle.timeline.proofs.Jitter.{jitter-between, jitter-most, goodAge, call-between, call-most}
 
 -- so many milliseconds in units, to the nearest one
 abbrev pub milliseconds : ℕ → ℤ

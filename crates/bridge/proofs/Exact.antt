@@ -8,18 +8,18 @@ use Rattle.samples.specs.Keep.{endsOf, rateBetween}
 use Rattle.samples.specs.declared.Samples.{Samples}
 use Rattle.samples.specs.declared.Ends.{Ends}
 use Rattle.samples.specs.declared.Ends.the-variants.{Few, Both}
-use Rattle.line.specs.Drift.{ppmOf, driftThrough, driftOf}
-use Rattle.line.specs.declared.Drift.{Drift}
-use Rattle.line.specs.declared.Drift.the-variants.{PartsPerMillion}
-use Rattle.table.specs.Table.{samplesAt}
+use Rattle.timeline.specs.Drift.{ppmOf, driftThrough, driftOf}
+use Rattle.timeline.specs.declared.Drift.{Drift}
+use Rattle.timeline.specs.declared.Drift.the-variants.{PartsPerMillion}
+use Rattle.bridge.specs.Table.{samplesAt}
 use Rattle.bridge.specs.State.{Lawful}
 use Rattle.bridge.specs.Drift.{driftAt}
 use Rattle.bridge.specs.Demands.{ExactDrift}
 use Rattle.bridge.specs.declared.Bridge.{Bridge}
 use Rattle.numbers.proofs.Branches.{if-when}
 use Rattle.samples.proofs.KeepLaws.{between-small, ends-lawful}
-use Rattle.line.proofs.PpmLaws.{ppm-exact}
-use Rattle.table.proofs.TableLaws.{samples-lawful}
+use Rattle.timeline.proofs.PpmLaws.{ppm-exact}
+use Rattle.bridge.proofs.TableLaws.{samples-lawful}
 
 pub drift-exact : (b : Bridge) (port : ℕ) (x : Float) → Lawful b → driftAt b port ≡ PartsPerMillion x → ExactDrift b port x
 unfolding driftAt driftOf

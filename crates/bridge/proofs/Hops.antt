@@ -10,11 +10,10 @@ use borrow.Author.Tests.{eqb-true, eqb-false}
 use lib.Dec.{eqb, leb}
 use lib.ListN.{length, set}
 use lib.Seq.{getD-set-same, getD-set-other}
-use Rattle.numbers.specs.Digits.{Bytes}
+use Rattle.numbers.specs.Bytes.{Bytes}
 use Rattle.refusals.specs.Refusals.{lastHopHeard}
 use Rattle.times.specs.Times.{circle}
 use Rattle.times.specs.declared.LocalTime.{LocalTime}
-use Rattle.delay.specs.declared.DelaySetting.{DelaySetting}
 use Rattle.choice.specs.Hop.{lastHop, hopOf}
 use Rattle.choice.specs.declared.Announcement.{Announcement}
 use Rattle.choice.specs.declared.Announcement.the-variants.{Silent, Announced}
@@ -27,12 +26,13 @@ use Rattle.frame.specs.declared.Reading.{Reading}
 use Rattle.frame.specs.declared.Reading.the-variants as Readings
 use Rattle.port.specs.Record.{emptyPort, agedPort}
 use Rattle.port.specs.Receive.{receivedOf}
+use Rattle.port.specs.declared.Setting.{Setting}
 use Rattle.port.specs.declared.Port.{Port}
 use Rattle.port.specs.declared.PortDone.{PortDone}
 use Rattle.choice.specs.Choose.{numberOf}
-use Rattle.table.specs.Table.{portAt, mostPorts, relinkedPort}
-use Rattle.table.specs.Arguments.{bit, portRefusal, sendRefusal, ownClockRefusal, maskBeyond}
-use Rattle.table.specs.declared.Setup.{Setup}
+use Rattle.bridge.specs.Table.{portAt, mostPorts, relinkedPort}
+use Rattle.bridge.specs.Arguments.{bit, portRefusal, sendRefusal, ownClockRefusal, maskBeyond}
+use Rattle.bridge.specs.declared.Setup.{Setup}
 use Rattle.bridge.specs.State.{Lawful, withPort}
 use Rattle.bridge.specs.Setup.{setupOf}
 use Rattle.bridge.specs.Links.{linksOf}
@@ -51,7 +51,7 @@ use Rattle.choice.proofs.HopLaws.{hop-rises, hop-within}
 use Rattle.frame.proofs.FrameLaws.{accepted, reading, promised, framed}
 use Rattle.frame.proofs.Trip.{hop-number}
 use Rattle.port.proofs.PortLaws.{aged-is, received-is, received-last-hop}
-use Rattle.table.proofs.CheckLaws.{Ready, port-ready}
+use Rattle.bridge.proofs.CheckLaws.{Ready, port-ready}
 use Rattle.bridge.proofs.StateLaws.{receive-read, chosen-number}
 use Rattle.bridge.proofs.Refused.{receive-answers}
 use Rattle.bridge.proofs.Records.{replaced, each-record, eight-records, record-run}
@@ -66,7 +66,7 @@ record Holds (f : Fields) (at : LocalTime) (port : Port) : Type 0 where
   pub not-last : f .hop ≡ lastHop → ⊥
   pub announced : port .announcement ≡ Announced (f .precedence) (hopOf (f .hop) chosen) at
 
-holds : (setting : DelaySetting) (chosen : ℕ) (f : Fields) (at : LocalTime) (port : Port) → receivedOf setting chosen f at port .answer ≡ 0
+holds : (setting : Setting) (chosen : ℕ) (f : Fields) (at : LocalTime) (port : Port) → receivedOf setting chosen f at port .answer ≡ 0
     → Holds f at (receivedOf setting chosen f at port .port)
 holds setting chosen f at port z =
     let seven : f .hop ≡ lastHop → 7 ≡ receivedOf setting chosen f at port .answer = λ e. ap (λ (d : PortDone). d .answer) (received-last-hop setting chosen f at port e) in

@@ -8,10 +8,10 @@ use borrow.Author.Tests.{leb-true, leb-false, ltb-true, eqb-true}
 use lib.Dec.{leb, ltb, eqb}
 use lib.ListN.{length, replicate, length-set}
 use lib.Pow.{pow-pos}
-use Rattle.numbers.specs.Digits.{Bytes}
+use Rattle.numbers.specs.Bytes.{Bytes}
 use Rattle.times.specs.Times.{circle}
 use Rattle.times.specs.declared.LocalTime.{LocalTime}
-use Rattle.line.specs.Sent.{longestElapsed}
+use Rattle.timeline.specs.Sent.{longestElapsed}
 use Rattle.frame.specs.Read.{readOf}
 use Rattle.frame.specs.declared.Fields.{Fields}
 use Rattle.frame.specs.declared.Reading.{Reading}
@@ -20,10 +20,10 @@ use Rattle.port.specs.Record.{emptyPort}
 use Rattle.port.specs.Lawful.{LawfulPort, LawfulClock, FieldsInRange}
 use Rattle.port.specs.declared.Port.{Port}
 use Rattle.port.specs.declared.OwnClock.{OwnClock}
-use Rattle.table.specs.Table.{each, portAt, mostPorts, relinkedPort}
-use Rattle.table.specs.Arguments.{bit, portRefusal, sendRefusal, ownClockRefusal, maskBeyond}
-use Rattle.table.specs.Fits.{leastTimeout, greatestTimeout, setupFits, noSetup}
-use Rattle.table.specs.declared.Setup.{Setup}
+use Rattle.bridge.specs.Table.{each, portAt, mostPorts, relinkedPort}
+use Rattle.bridge.specs.Arguments.{bit, portRefusal, sendRefusal, ownClockRefusal, maskBeyond}
+use Rattle.bridge.specs.Fits.{leastTimeout, greatestTimeout, setupFits, noSetup}
+use Rattle.bridge.specs.declared.Setup.{Setup}
 use Rattle.bridge.specs.State.{Lawful, stateOf, withPort, withLinks}
 use Rattle.bridge.specs.Setup.{freshOf, setupOf}
 use Rattle.bridge.specs.Links.{linksOf}
@@ -37,8 +37,8 @@ use Rattle.bridge.specs.declared.Linked.{Linked}
 use Rattle.numbers.proofs.Branches.{if-when}
 use Rattle.times.proofs.TestLaws.{both-hold}
 use Rattle.port.proofs.PortLaws.{empty-lawful, used-lawful, aged-lawful, received-lawful, own-reading-lawful, read-in-range}
-use Rattle.table.proofs.Walk.{each-length, each-all, set-all}
-use Rattle.table.proofs.CheckLaws.{port-ready, own-ready}
+use Rattle.bridge.proofs.Walk.{each-length, each-all, set-all}
+use Rattle.bridge.proofs.CheckLaws.{port-ready, own-ready}
 
 abbrev pub Next : Done → Type 0
 Next d = Lawful (d .next)
@@ -48,7 +48,7 @@ LinkedNext d = Lawful (d .next)
 
 -- ---- a state by its parts
 
-parts-lawful : (s : Setup) (links : ℕ) (clock : OwnClock) (ports : List Port) → length (s .settings) ≡ mostPorts → s .n ≤ mostPorts → s .back < longestElapsed
+parts-lawful : (s : Setup) (links : ℕ) (clock : OwnClock) (ports : List Port) → length (s .settings) ≡ mostPorts → s .n ≤ mostPorts → s .sender .back < longestElapsed
     → links < 2 ^ s .n → LawfulClock clock → length ports ≡ mostPorts → ((i : ℕ) → LawfulPort (portAt ports i)) → Lawful (stateOf s links clock ports)
 parts-lawful s links clock ports hs hn hb hl hc hr hp = record {
   records = hr;
@@ -82,7 +82,7 @@ empties zero i = empty-lawful
 empties (suc n) zero = empty-lawful
 empties (suc n) (suc i) = empties n i
 
-fresh-lawful : (s : Setup) → length (s .settings) ≡ mostPorts → s .n ≤ mostPorts → s .back < longestElapsed → Lawful (freshOf s)
+fresh-lawful : (s : Setup) → length (s .settings) ≡ mostPorts → s .n ≤ mostPorts → s .sender .back < longestElapsed → Lawful (freshOf s)
 fresh-lawful s hs hn hb = parts-lawful s 0 _ _ hs hn hb (pow-pos (s .n)) (record { preceding = tt; samples = tt }) refl (empties mostPorts)
 
 pub setup-lawful : (s : Setup) → length (s .settings) ≡ mostPorts → Lawful (setupOf s .next)
@@ -94,7 +94,7 @@ setup-lawful s hs =
     let b = both-hold (leb (s .n) mostPorts) _ (a .1) in
     let c = both-hold (leb leastTimeout (s .timeout)) _ (b .1) in
     let d = both-hold (leb (s .timeout) greatestTimeout) _ (c .1) in
-    let f = both-hold (ltb (s .back) longestElapsed) _ (d .1) in
+    let f = both-hold (ltb (s .sender .back) longestElapsed) _ (d .1) in
     fresh-lawful s hs (leb-true _ _ (b .0)) (ltb-true _ _ (f .0)))
     (λ _. fresh-lawful noSetup refl (omega arith) (omega arith))
 

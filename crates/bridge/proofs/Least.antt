@@ -16,7 +16,7 @@ use Rattle.choice.specs.declared.Announcement.the-variants.{Silent, Announced}
 use Rattle.choice.specs.declared.Candidate.{Candidate}
 use Rattle.choice.specs.declared.Candidate.the-variants.{Nothing, Clock}
 use Rattle.port.specs.declared.Port.{Port}
-use Rattle.table.specs.Table.{portAt, candidatesFrom, bestOf}
+use Rattle.bridge.specs.Table.{portAt, candidatesFrom, bestOf}
 use Rattle.bridge.specs.Chosen.{chosenOf}
 use Rattle.bridge.specs.Demands.{candidates, NoWorse}
 use Rattle.bridge.specs.declared.Bridge.{Bridge}

@@ -1,3 +1,6 @@
+pub mod Walk
+pub mod TableLaws
+pub mod CheckLaws
 pub mod StateLaws
 pub mod Keeps
 pub mod PromiseLaws

@@ -9,36 +9,36 @@ use borrow.Author.Tests.{eqb-true, eqb-false}
 use lib.Dec.{eqb}
 use lib.IntN.{pos}
 use lib.ListN.{length, drop}
-use Rattle.numbers.specs.Digits.{numberAt}
+use Rattle.numbers.specs.Bytes.{numberAt}
 use Rattle.times.specs.Times.{sinceOf, units}
 use Rattle.times.specs.declared.LocalTime.{LocalTime}
-use Rattle.line.specs.Sent.{reachOf, sentOf}
-use Rattle.line.specs.declared.Sent.{Sent}
-use Rattle.line.specs.declared.Sent.the-variants.{At, Few, Late, Beyond}
-use Rattle.line.specs.Line.{NearLine}
+use Rattle.timeline.specs.Sent.{reachOf, sentOf}
+use Rattle.timeline.specs.declared.Sent.{Sent}
+use Rattle.timeline.specs.declared.Sent.the-variants.{At, Few, Late, Beyond}
+use Rattle.timeline.specs.Line.{NearLine}
 use Rattle.choice.specs.declared.Precedence.{Precedence}
 use Rattle.choice.specs.declared.Candidate.the-variants.{Clock}
 use Rattle.frame.specs.Frame.{frameLength}
 use Rattle.frame.specs.Write.{writeRefusal, bytesOf}
 use Rattle.frame.specs.declared.Fields.{Fields}
-use Rattle.frame.specs.declared.Mac.{Mac}
 use Rattle.port.specs.Send.{frameOf, sendingBy, sendingBytes}
+use Rattle.port.specs.declared.Sender.{Sender}
 use Rattle.port.specs.declared.Port.{Port}
 use Rattle.port.specs.declared.Sending.{Sending}
 use Rattle.port.specs.declared.Sending.the-variants.{Frame}
-use Rattle.table.specs.Table.{portAt}
-use Rattle.table.specs.Arguments.{sendRefusal}
+use Rattle.bridge.specs.Table.{portAt}
+use Rattle.bridge.specs.Arguments.{sendRefusal}
 use Rattle.bridge.specs.State.{Lawful}
 use Rattle.bridge.specs.Chosen.{chosenOf}
 use Rattle.bridge.specs.Send.{chosenSamples, sendingAt, sendOf, sendBytes}
 use Rattle.bridge.specs.Demands.{grandStart, grandBytes, OnLine}
 use Rattle.bridge.specs.declared.Bridge.{Bridge}
 use Rattle.bridge.specs.declared.Done.{Done}
-use Rattle.line.proofs.SentLaws.{sent-near}
+use Rattle.timeline.proofs.SentLaws.{sent-near}
 use Rattle.frame.proofs.Trip.{grand-bytes, hop-byte, count-byte}
 use Rattle.port.proofs.PortLaws.{ReadOff, send-by, sending-read-off, sending-written}
-use Rattle.table.proofs.CheckLaws.{Ready, send-ready}
-use Rattle.table.proofs.TableLaws.{chosen-lawful}
+use Rattle.bridge.proofs.CheckLaws.{Ready, send-ready}
+use Rattle.bridge.proofs.TableLaws.{chosen-lawful}
 use Rattle.bridge.proofs.StateLaws.{if-both}
 
 -- what a send that answers 0 left in the output: a frame, with the port's next frameCount
@@ -48,14 +48,14 @@ record Wrote (b : Bridge) (port t : ℕ) (out left : List ℕ) : Type 0 where
   pub sending : sendingAt b (port - 1) (record { 0 = t }) ≡ Frame fields
   pub bytes : left ≡ bytesOf fields (drop frameLength out)
   pub count : fields .count ≡ portAt (b .ports) (port - 1) .count
-  pub read : ReadOff (chosenSamples b) (record { 0 = t }) (b .setup .back) fields
+  pub read : ReadOff (chosenSamples b) (record { 0 = t }) (b .setup .sender .back) fields
 
 wrote : (b : Bridge) (port t : ℕ) (out : List ℕ) → sendOf b port t (length out) .answer ≡ 0 → Wrote b port t out (sendBytes b port t out)
 unfolding sendOf sendBytes sendingAt
 wrote b port t out =
     if-both (λ (d : Done) (left : List ℕ). d .answer ≡ 0 → Wrote b port t out left) (eqb (sendRefusal (b .setup .n) (b .links) port t (length out)) 0)
     (λ q z.
-    let f = sending-read-off (chosenOf b) (chosenSamples b) (b .setup .mac) (b .setup .back) (record { 0 = t }) (portAt (b .ports) (port - 1)) z in
+    let f = sending-read-off (chosenOf b) (chosenSamples b) (b .setup .sender) (record { 0 = t }) (portAt (b .ports) (port - 1)) z in
     record {
       fields = f .0;
       ready = send-ready (b .setup .n) (b .links) port t (length out) (eqb-true _ _ q);
@@ -80,8 +80,8 @@ sent-frame-near b port t out h e =
       newer = r .newest;
       kept = r .kept;
       near =
-          subst (λ (n : ℕ). NearLine (r .oldest) (r .newest) (pos n) (reachOf (sinceOf (record { 0 = t }) (r .newest .local)) (b .setup .back)) (b .setup .back)) number
-          (sent-near (chosenSamples b) (record { 0 = t }) (b .setup .back) (f .grand) (f .error) r lawful (h .back-small));
+          subst (λ (n : ℕ). NearLine (r .oldest) (r .newest) (pos n) (reachOf (sinceOf (record { 0 = t }) (r .newest .local)) (b .setup .sender .back)) (b .setup .sender .back)) number
+          (sent-near (chosenSamples b) (record { 0 = t }) (b .setup .sender .back) (f .grand) (f .error) r lawful (h .back-small));
     }
 
 -- a frame that was sent is one that Write takes
@@ -90,7 +90,7 @@ pub sent-frame-written : (b : Bridge) (port t : ℕ) (out : List ℕ) (f : Field
 unfolding sendingAt
 sent-frame-written b port t out f h e s =
     let r = wrote b port t out e .ready in
-    sending-written _ _ _ _ (record { 0 = t }) (portAt (b .ports) (port - 1)) (length out) f (r .0 .time) (h .ports-lawful (port - 1)) (r .1) s
+    sending-written _ _ _ (record { 0 = t }) (portAt (b .ports) (port - 1)) (length out) f (r .0 .time) (h .ports-lawful (port - 1)) (r .1) s
 
 -- byte 30 of a frame that was sent is the port's next frameCount
 pub sent-frame-count : (b : Bridge) (port t : ℕ) (out : List ℕ) → portAt (b .ports) (port - 1) .count < 256 → sendOf b port t (length out) .answer ≡ 0
@@ -100,11 +100,11 @@ sent-frame-count b port t out h e =
     ap (λ (l : List ℕ). numberAt l 30 1) (w .bytes) ∙ count-byte (w .fields) (drop frameLength out) (subst (λ (n : ℕ). n < 256) (sym (w .count)) h) ∙ w .count
 
 -- a frame that is sent for a clock has that clock's held hop
-sending-hop : (s : Sent) (mac : Mac) (p : Precedence) (h : ℕ) (t : LocalTime) (port : Port) (f : Fields) → sendingBy s mac p h t port ≡ Frame f → f .hop ≡ h
-sending-hop (At g x) mac p h t port f e = let same : frameOf mac p h t g x port ≡ f = cc in sym (ap (λ (f : Fields). f .hop) same)
-sending-hop Few mac p h t port f e = let clash : _≡_ {A = ℕ} 0 1 = cc in absurd (omega arith)
-sending-hop Late mac p h t port f e = let clash : _≡_ {A = ℕ} 0 1 = cc in absurd (omega arith)
-sending-hop Beyond mac p h t port f e = let clash : _≡_ {A = ℕ} 0 1 = cc in absurd (omega arith)
+sending-hop : (s : Sent) (sender : Sender) (p : Precedence) (h : ℕ) (t : LocalTime) (port : Port) (f : Fields) → sendingBy s sender p h t port ≡ Frame f → f .hop ≡ h
+sending-hop (At g x) sender p h t port f e = let same : frameOf sender p h t g x port ≡ f = cc in sym (ap (λ (f : Fields). f .hop) same)
+sending-hop Few sender p h t port f e = let clash : _≡_ {A = ℕ} 0 1 = cc in absurd (omega arith)
+sending-hop Late sender p h t port f e = let clash : _≡_ {A = ℕ} 0 1 = cc in absurd (omega arith)
+sending-hop Beyond sender p h t port f e = let clash : _≡_ {A = ℕ} 0 1 = cc in absurd (omega arith)
 
 -- byte 29 of a frame that was sent is the chosen clock's held hop
 pub sent-frame-hop : (b : Bridge) (port t : ℕ) (out : List ℕ) {p : Precedence} {h n : ℕ} → chosenOf b ≡ Clock p h n → h < 256 → sendOf b port t (length out) .answer ≡ 0
@@ -112,6 +112,6 @@ pub sent-frame-hop : (b : Bridge) (port t : ℕ) (out : List ℕ) {p : Precedenc
 unfolding sendingAt
 sent-frame-hop b port t out {p} {h} {n} c l e =
     let w = wrote b port t out e in
-    let held : w .fields .hop ≡ h = sending-hop (sentOf (chosenSamples b) (record { 0 = t }) (b .setup .back)) (b .setup .mac) p h (record { 0 = t }) (portAt (b .ports) (port - 1)) (w .fields)
-    (send-by (chosenOf b) (chosenSamples b) (b .setup .mac) (b .setup .back) (record { 0 = t }) (portAt (b .ports) (port - 1)) c refl ∙ w .sending) in
+    let held : w .fields .hop ≡ h = sending-hop (sentOf (chosenSamples b) (record { 0 = t }) (b .setup .sender .back)) (b .setup .sender) p h (record { 0 = t }) (portAt (b .ports) (port - 1)) (w .fields)
+    (send-by (chosenOf b) (chosenSamples b) (b .setup .sender) (record { 0 = t }) (portAt (b .ports) (port - 1)) c refl ∙ w .sending) in
     ap (λ (l : List ℕ). numberAt l 29 1) (w .bytes) ∙ hop-byte (w .fields) (drop frameLength out) (subst (λ (n : ℕ). n < 256) (sym held) l) ∙ held

@@ -7,12 +7,12 @@ use lib.ListN.{length}
 use Rattle.samples.specs.Keep.{endsOf}
 use Rattle.samples.specs.declared.Ends.{Ends}
 use Rattle.samples.specs.declared.Ends.the-variants.{Few, Both}
-use Rattle.line.specs.Drift.{driftThrough, driftOf, driftNo, driftReading}
-use Rattle.line.specs.declared.Drift.{Drift}
+use Rattle.timeline.specs.Drift.{driftThrough, driftOf, driftNo, driftReading}
+use Rattle.timeline.specs.declared.Drift.{Drift}
 use Rattle.choice.specs.Choose.{shownPort, shownHop}
 use Rattle.choice.specs.declared.Candidate.{Candidate}
-use Rattle.table.specs.Table.{samplesAt}
-use Rattle.table.specs.Arguments.{maskBeyond}
+use Rattle.bridge.specs.Table.{samplesAt}
+use Rattle.bridge.specs.Arguments.{maskBeyond}
 use Rattle.bridge.specs.State.{Lawful}
 use Rattle.bridge.specs.Links.{linksOf, linkNo, linkCount}
 use Rattle.bridge.specs.Chosen.{chosenOf}

@@ -11,10 +11,10 @@ use Rattle.frame.specs.declared.Reading.{Reading}
 use Rattle.frame.specs.declared.Reading.the-variants as Readings
 use Rattle.port.specs.Record.{emptyPort, agedPort}
 use Rattle.port.specs.declared.Port.{Port}
-use Rattle.table.specs.Table.{each, portAt, mostPorts, relinkedPort}
-use Rattle.table.specs.Arguments.{portRefusal, sendRefusal, ownClockRefusal, maskBeyond}
-use Rattle.table.specs.Fits.{setupFits}
-use Rattle.table.specs.declared.Setup.{Setup}
+use Rattle.bridge.specs.Table.{each, portAt, mostPorts, relinkedPort}
+use Rattle.bridge.specs.Arguments.{portRefusal, sendRefusal, ownClockRefusal, maskBeyond}
+use Rattle.bridge.specs.Fits.{setupFits}
+use Rattle.bridge.specs.declared.Setup.{Setup}
 use Rattle.bridge.specs.Setup.{setupOf}
 use Rattle.bridge.specs.Links.{linksOf}
 use Rattle.bridge.specs.Own.{ownClockOf}
@@ -26,7 +26,7 @@ use Rattle.bridge.specs.declared.Bridge.{Bridge}
 use Rattle.bridge.specs.declared.Done.{Done}
 use Rattle.bridge.specs.declared.Linked.{Linked}
 use Rattle.numbers.proofs.Branches.{if-when}
-use Rattle.table.proofs.Walk.{each-at, each-length}
+use Rattle.bridge.proofs.Walk.{each-at, each-length}
 
 -- ---- the record at an index
 

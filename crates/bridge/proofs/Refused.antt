@@ -10,7 +10,7 @@ use Rattle.times.specs.Times.{circle}
 use Rattle.samples.specs.Keep.{endsOf}
 use Rattle.samples.specs.declared.Ends.{Ends}
 use Rattle.samples.specs.declared.Ends.the-variants.{Few, Both}
-use Rattle.line.specs.Drift.{driftThrough, driftOf}
+use Rattle.timeline.specs.Drift.{driftThrough, driftOf}
 use Rattle.frame.specs.Read.{rowsOf, readRefusal, readAs, readOf}
 use Rattle.frame.specs.Write.{writeRefusal, writtenAs, writtenOf}
 use Rattle.frame.specs.declared.Fields.{Fields}
@@ -20,15 +20,15 @@ use Rattle.port.specs.Send.{sendingDone, sendingBytes}
 use Rattle.port.specs.declared.PortDone.{PortDone}
 use Rattle.port.specs.declared.ClockDone.{ClockDone}
 use Rattle.port.specs.declared.Sending.{Sending}
-use Rattle.table.specs.Table.{portAt, samplesAt}
-use Rattle.table.specs.Arguments.{portRefusal, sendRefusal, ownClockRefusal, maskBeyond}
-use Rattle.table.specs.Fits.{setupFits}
-use Rattle.table.specs.declared.Setup.{Setup}
+use Rattle.bridge.specs.Table.{portAt, samplesAt}
+use Rattle.bridge.specs.Arguments.{portRefusal, sendRefusal, ownClockRefusal, maskBeyond}
+use Rattle.bridge.specs.Fits.{setupFits}
+use Rattle.bridge.specs.declared.Setup.{Setup}
 use Rattle.bridge.specs.State.{answers, storesPort, storesClock}
 use Rattle.bridge.specs.Setup.{setupOf}
 use Rattle.bridge.specs.Links.{linksOf}
 use Rattle.bridge.specs.Own.{ownClockOf}
-use Rattle.bridge.specs.Receive.{delayAt, readBy, receiveFieldsOf, receiveOf}
+use Rattle.bridge.specs.Receive.{settingAt, readBy, receiveFieldsOf, receiveOf}
 use Rattle.bridge.specs.Age.{ageOf}
 use Rattle.bridge.specs.Chosen.{chosenOf}
 use Rattle.bridge.specs.Send.{chosenSamples, sendingAt, sendOf, sendBytes}
@@ -38,7 +38,7 @@ use Rattle.bridge.specs.declared.Bridge.{Bridge}
 use Rattle.numbers.proofs.Branches.{if-when}
 use Rattle.frame.proofs.FrameLaws.{read-is, write-is}
 use Rattle.port.proofs.PortLaws.{received-is, own-reading-is, sending-is}
-use Rattle.table.proofs.CheckLaws.{port-is, send-is, own-is}
+use Rattle.bridge.proofs.CheckLaws.{port-is, send-is, own-is}
 use Rattle.bridge.proofs.StateLaws.{if-both}
 
 pub read-answers : (s : List ℕ) → ReadAnswers (readOf s)
@@ -82,7 +82,7 @@ receive-answers b port frame arrival =
     by : (r : Reading) → readOf frame ≡ r → ReceiveAnswers b port frame arrival (readBy b (port - 1) r (record { 0 = arrival }))
     by (Readings.Refused k) q = ⊎-elim inl (λ h. inr (inl ((omega (arith, h .0), omega (arith, h .1)), refl))) (subst ReadAnswers q (read-answers frame))
     by (Readings.Frame f) q =
-        received-is (delayAt b (port - 1)) _ f (record { 0 = arrival }) (portAt (b .ports) (port - 1)) (λ (d : PortDone). ReceiveAnswers b port frame arrival (storesPort b (port - 1) d))
+        received-is (settingAt b (port - 1)) _ f (record { 0 = arrival }) (portAt (b .ports) (port - 1)) (λ (d : PortDone). ReceiveAnswers b port frame arrival (storesPort b (port - 1) d))
         (λ k l g. inr (inr ((l, g), (f, q, refl))))
         (λ _ _ _ _. inl refl)
 
@@ -91,7 +91,7 @@ unfolding sendOf sendBytes sendingAt
 send-answers b port t out =
     let held = portAt (b .ports) (port - 1) in
     if-both (SendAnswers b port out) (eqb (sendRefusal (b .setup .n) (b .links) port t (length out)) 0)
-    (λ _. sending-is (chosenOf b) (chosenSamples b) (b .setup .mac) (b .setup .back) (record { 0 = t }) held
+    (λ _. sending-is (chosenOf b) (chosenSamples b) (b .setup .sender) (record { 0 = t }) held
     (λ (s : Sending). SendAnswers b port out (storesPort b (port - 1) (sendingDone s held)) (sendingBytes s out)) (λ k l g. inr (inr ((l, g), refl, refl))) (λ _ _ _ _ _. inl refl))
     (λ _. send-is (λ (k : ℕ). SendAnswers b port out (answers k b) out) (b .setup .n) (b .links) port t (length out)
     (inr (inl ((omega arith, omega arith), refl, refl))) (inr (inl ((omega arith, omega arith), refl, refl))) (inr (inl ((omega arith, omega arith), refl, refl))) (inl refl))

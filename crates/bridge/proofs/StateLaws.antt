@@ -12,14 +12,16 @@ use Rattle.times.specs.Times.{circle}
 use Rattle.times.specs.declared.LocalTime.{LocalTime}
 use Rattle.samples.specs.Keep.{LawfulSamples}
 use Rattle.samples.specs.declared.Samples.{Samples}
-use Rattle.line.specs.declared.Drift.{Drift}
-use Rattle.line.specs.declared.Drift.the-variants as Drifts
-use Rattle.line.specs.Drift.{driftOf}
-use Rattle.choice.specs.Choose.{ownCandidate, numberOf}
+use Rattle.timeline.specs.declared.Drift.{Drift}
+use Rattle.timeline.specs.declared.Drift.the-variants as Drifts
+use Rattle.timeline.specs.Drift.{driftOf}
+use Rattle.choice.specs.Choose.{ownCandidate, numberOf, chosenHop}
 use Rattle.choice.specs.declared.Candidate.{Candidate}
 use Rattle.choice.specs.declared.Candidate.the-variants as Candidates
 use Rattle.frame.specs.Read.{readOf}
 use Rattle.frame.specs.declared.Reading.{Reading}
+use Rattle.frame.specs.declared.Fields.{Fields}
+use Rattle.port.specs.Receive.{receivedOf}
 use Rattle.port.specs.Record.{emptyPort, tooOld, agedPort}
 use Rattle.port.specs.Own.{ownReadingOf}
 use Rattle.port.specs.Send.{sendingOf, sendingDone, sendingBytes}
@@ -27,15 +29,15 @@ use Rattle.port.specs.declared.Port.{Port}
 use Rattle.port.specs.declared.OwnClock.{OwnClock}
 use Rattle.port.specs.declared.PortDone.{PortDone}
 use Rattle.port.specs.declared.ClockDone.{ClockDone}
-use Rattle.table.specs.Table.{mostPorts, each, portAt, samplesAt, samplesOfChoice, relinkedPort}
-use Rattle.table.specs.Arguments.{portRefusal, sendRefusal, ownClockRefusal, maskBeyond}
-use Rattle.table.specs.Fits.{setupFits}
-use Rattle.table.specs.declared.Setup.{Setup}
+use Rattle.bridge.specs.Table.{mostPorts, each, portAt, samplesAt, samplesOfChoice, relinkedPort}
+use Rattle.bridge.specs.Arguments.{portRefusal, sendRefusal, ownClockRefusal, maskBeyond}
+use Rattle.bridge.specs.Fits.{setupFits}
+use Rattle.bridge.specs.declared.Setup.{Setup}
 use Rattle.bridge.specs.State.{withPorts, withPort, withLinks, answers, linked, storesPort, storesClock, refusedOr, Lawful}
 use Rattle.bridge.specs.Setup.{freshOf, noBridge, setupOf}
 use Rattle.bridge.specs.Links.{linksOf}
 use Rattle.bridge.specs.Own.{ownClockOf}
-use Rattle.bridge.specs.Receive.{readBy, receiveOf}
+use Rattle.bridge.specs.Receive.{settingAt, readBy, receiveFieldsOf, receiveOf}
 use Rattle.bridge.specs.Age.{ageOf}
 use Rattle.bridge.specs.Chosen.{chosenOf}
 use Rattle.bridge.specs.Send.{sendingAt, sendOf, sendBytes}
@@ -45,8 +47,8 @@ use Rattle.bridge.specs.declared.Done.{Done}
 use Rattle.bridge.specs.declared.LinkCount.the-variants.{Refused, Up}
 use Rattle.numbers.proofs.Branches.{if-true, if-false}
 use Rattle.port.proofs.PortLaws.{aged-fresh}
-use Rattle.table.proofs.TableLaws.{best-number, relinked-beyond}
-use Rattle.table.proofs.Walk.{Walked, walked-start, walked-more, walked-same, walked-first}
+use Rattle.bridge.proofs.TableLaws.{best-number, relinked-beyond}
+use Rattle.bridge.proofs.Walk.{Walked, walked-start, walked-more, walked-same, walked-first}
 
 -- ---- a refusal k found before any record is looked at, whose definition is `want`: where it is none, and where it is one
 
@@ -157,6 +159,12 @@ module _ (b : Bridge) (count seconds fraction at k : ℕ) (e : k ≡ ownClockRef
 
 -- ---- receive
 
+-- what is stored of a frame that was read goes by H of the state before the call
+pub receive-stores : (b : Bridge) (i : ℕ) (f : Fields) (at : LocalTime)
+    → storesPort b i (receivedOf (settingAt b i) (chosenHop (chosenOf b)) f at (portAt (b .ports) i)) ≡ receiveFieldsOf b i f at
+unfolding receiveFieldsOf
+receive-stores b i f at = refl
+
 module _ (b : Bridge) (port : ℕ) (frame : List ℕ) (arrival k : ℕ) (e : k ≡ portRefusal (b .setup .n) (b .links) port arrival) where
   pub receive-refused : (k ≡ 0 → ⊥) → answers k b ≡ receiveOf b port frame arrival
   unfolding receiveOf
@@ -188,14 +196,14 @@ module _ (b : Bridge) (port t : ℕ) (out : List ℕ) (k : ℕ) (e : k ≡ sendR
 
 -- what a port sends by the chosen clock and the samples of its number: where no clock is chosen the samples do not matter
 pub sending-chosen : (b : Bridge) (i : ℕ) (t : LocalTime) (c : Candidate) (s : Samples) → c ≡ chosenOf b → s ≡ samplesAt (numberOf c) (b .clock) (b .ports)
-    → sendingOf c s (b .setup .mac) (b .setup .back) t (portAt (b .ports) i) ≡ sendingAt b i t
+    → sendingOf c s (b .setup .sender) t (portAt (b .ports) i) ≡ sendingAt b i t
 unfolding sendingAt samplesOfChoice sendingOf
-sending-chosen b i t c s e q = go c s q ∙ ap (λ (x : Candidate). sendingOf x (samplesOfChoice x (b .clock) (b .ports)) (b .setup .mac) (b .setup .back) t (portAt (b .ports) i)) e
+sending-chosen b i t c s e q = go c s q ∙ ap (λ (x : Candidate). sendingOf x (samplesOfChoice x (b .clock) (b .ports)) (b .setup .sender) t (portAt (b .ports) i)) e
   where
     go : (c : Candidate) (s : Samples) → s ≡ samplesAt (numberOf c) (b .clock) (b .ports)
-        → sendingOf c s (b .setup .mac) (b .setup .back) t (portAt (b .ports) i) ≡ sendingOf c (samplesOfChoice c (b .clock) (b .ports)) (b .setup .mac) (b .setup .back) t (portAt (b .ports) i)
+        → sendingOf c s (b .setup .sender) t (portAt (b .ports) i) ≡ sendingOf c (samplesOfChoice c (b .clock) (b .ports)) (b .setup .sender) t (portAt (b .ports) i)
     go Candidates.Nothing s q = refl
-    go (Candidates.Clock p h n) s q = ap (λ (x : Samples). sendingOf (Candidates.Clock p h n) x (b .setup .mac) (b .setup .back) t (portAt (b .ports) i)) q
+    go (Candidates.Clock p h n) s q = ap (λ (x : Samples). sendingOf (Candidates.Clock p h n) x (b .setup .sender) t (portAt (b .ports) i)) q
 
 -- ---- drift
 

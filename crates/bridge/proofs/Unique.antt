@@ -3,13 +3,13 @@ use mathlib.Core.Path.{_≡_, sym, _∙_}
 use mathlib.Core.List.{List}
 use Prim.Native.Nat.{ℕ}
 use denote.Ref.{RefT}
-use Rattle.line.specs.declared.Drift.{Drift}
+use Rattle.timeline.specs.declared.Drift.{Drift}
 use Rattle.choice.specs.declared.Candidate.{Candidate}
 use Rattle.frame.specs.Better.{lies}
 use Rattle.frame.specs.Promises.{ReadPromise, WritePromise, BetterPromise}
 use Rattle.frame.specs.declared.Fields.{Fields}
 use Rattle.frame.specs.declared.Reading.{Reading}
-use Rattle.table.specs.declared.Setup.{Setup}
+use Rattle.bridge.specs.declared.Setup.{Setup}
 use Rattle.bridge.specs.Setup.{setupOf}
 use Rattle.bridge.specs.Own.{ownClockOf}
 use Rattle.bridge.specs.Receive.{receiveOf}

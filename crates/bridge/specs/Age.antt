@@ -5,7 +5,7 @@ use lib.Dec.{leb}
 use Rattle.refusals.specs.Refusals.{done, outOfRange}
 use Rattle.times.specs.Times.{circle}
 use Rattle.port.specs.Record.{agedPort}
-use Rattle.table.specs.Table.{each}
+use Rattle.bridge.specs.Table.{each}
 use Rattle.bridge.specs.State.{withPorts, answers}
 use Rattle.bridge.specs.declared.Bridge.{Bridge}
 use Rattle.bridge.specs.declared.Done.{Done}

@@ -1,6 +1,6 @@
 -- Chosen.
 use Rattle.choice.specs.declared.Candidate.{Candidate}
-use Rattle.table.specs.Table.{choiceOf}
+use Rattle.bridge.specs.Table.{choiceOf}
 use Rattle.bridge.specs.declared.Bridge.{Bridge}
 
 -- the best clock of the whole state, or none

@@ -9,17 +9,17 @@ use lib.IntN.{pos, natAbs}
 use lib.Signed.{nonNeg}
 use lib.Ieee.{Float}
 use lib.Ieee.Exact.{HasValue}
-use Rattle.numbers.specs.Digits.{numberAt}
+use Rattle.numbers.specs.Bytes.{numberAt}
 use Rattle.times.specs.Times.{sinceOf}
 use Rattle.times.specs.declared.LocalTime.{LocalTime}
 use Rattle.samples.specs.Rate.{parts}
 use Rattle.samples.specs.Keep.{endsOf, rateBetween}
 use Rattle.samples.specs.declared.Sample.{Sample}
 use Rattle.samples.specs.declared.Ends.the-variants.{Both}
-use Rattle.line.specs.Sent.{reachOf}
-use Rattle.line.specs.Line.{NearLine}
-use Rattle.line.specs.Drift.{million, driftNo}
-use Rattle.line.specs.declared.Drift.{Drift}
+use Rattle.timeline.specs.Sent.{reachOf}
+use Rattle.timeline.specs.Line.{NearLine}
+use Rattle.timeline.specs.Drift.{million, driftNo}
+use Rattle.timeline.specs.declared.Drift.{Drift}
 use Rattle.choice.specs.Hop.{lastHop}
 use Rattle.choice.specs.Choose.{rankOf, ownCandidate, numberOf}
 use Rattle.choice.specs.declared.Announcement.{Announcement}
@@ -33,8 +33,8 @@ use Rattle.frame.specs.declared.Reading.the-variants.{Frame}
 use Rattle.port.specs.Record.{usedPort}
 use Rattle.port.specs.Receive.{notedPort}
 use Rattle.port.specs.declared.Preceding.the-variants.{Was}
-use Rattle.table.specs.Table.{portAt, samplesAt, candidatesFrom}
-use Rattle.table.specs.Arguments.{bit, sendRefusal, maskBeyond}
+use Rattle.bridge.specs.Table.{portAt, samplesAt, candidatesFrom}
+use Rattle.bridge.specs.Arguments.{bit, sendRefusal, maskBeyond}
 use Rattle.bridge.specs.State.{withPort, withClock}
 use Rattle.bridge.specs.Setup.{noBridge}
 use Rattle.bridge.specs.Links.{linksOf, linkNo}
@@ -110,7 +110,7 @@ pub record OnLine (b : Bridge) (t : ℕ) (bytes : List ℕ) : Type 0 where
   pub older : Sample
   pub newer : Sample
   pub kept : endsOf (chosenSamples b) ≡ Both older newer
-  pub near : NearLine older newer (pos (numberAt bytes grandStart grandBytes)) (reachOf (sinceOf (record { 0 = t }) (newer .local)) (b .setup .back)) (b .setup .back)
+  pub near : NearLine older newer (pos (numberAt bytes grandStart grandBytes)) (reachOf (sinceOf (record { 0 = t }) (newer .local)) (b .setup .sender .back)) (b .setup .sender .back)
 
 -- ---- drift
 

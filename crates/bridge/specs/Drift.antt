@@ -2,10 +2,10 @@
 use mathlib.Core.Bool.{cond}
 use Prim.Native.Nat.{ℕ}
 use lib.Dec.{ltb}
-use Rattle.line.specs.Drift.{driftOf}
-use Rattle.line.specs.declared.Drift.{Drift}
-use Rattle.line.specs.declared.Drift.the-variants.{Refused}
-use Rattle.table.specs.Table.{samplesAt}
+use Rattle.timeline.specs.Drift.{driftOf}
+use Rattle.timeline.specs.declared.Drift.{Drift}
+use Rattle.timeline.specs.declared.Drift.the-variants.{Refused}
+use Rattle.bridge.specs.Table.{samplesAt}
 use Rattle.bridge.specs.declared.Bridge.{Bridge}
 
 -- of the own clock, 0, or of a port

@@ -1,3 +1,6 @@
+pub mod Arguments
+pub mod Table
+pub mod Fits
 pub mod State
 pub mod Setup
 pub mod Links

@@ -3,8 +3,8 @@ use mathlib.Core.Bool.{cond}
 use Prim.Native.Nat.{ℕ}
 use lib.Count.{ones}
 use Rattle.refusals.specs.Refusals.{done, outOfRange}
-use Rattle.table.specs.Table.{each, relinkedPort}
-use Rattle.table.specs.Arguments.{maskBeyond}
+use Rattle.bridge.specs.Table.{each, relinkedPort}
+use Rattle.bridge.specs.Arguments.{maskBeyond}
 use Rattle.bridge.specs.State.{withLinks, linked}
 use Rattle.bridge.specs.declared.Bridge.{Bridge}
 use Rattle.bridge.specs.declared.Linked.{Linked}

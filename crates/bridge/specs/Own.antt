@@ -1,7 +1,7 @@
 -- Own clock.
 use Prim.Native.Nat.{ℕ}
 use Rattle.port.specs.Own.{ownReadingOf}
-use Rattle.table.specs.Arguments.{ownClockRefusal}
+use Rattle.bridge.specs.Arguments.{ownClockRefusal}
 use Rattle.bridge.specs.State.{storesClock, refusedOr}
 use Rattle.bridge.specs.declared.Bridge.{Bridge}
 use Rattle.bridge.specs.declared.Done.{Done}

@@ -7,11 +7,11 @@ use lib.Count.{ones}
 use lib.Dec.{ltb}
 use lib.ListN.{length}
 use Rattle.refusals.specs.Refusals.{done, outOfRange}
-use Rattle.line.specs.Drift.{driftNo, driftReading}
-use Rattle.line.specs.declared.Drift.{Drift}
+use Rattle.timeline.specs.Drift.{driftNo, driftReading}
+use Rattle.timeline.specs.declared.Drift.{Drift}
 use Rattle.choice.specs.Choose.{shownPort, shownHop}
 use Rattle.choice.specs.declared.Candidate.{Candidate}
-use Rattle.table.specs.Arguments.{maskBeyond}
+use Rattle.bridge.specs.Arguments.{maskBeyond}
 use Rattle.bridge.specs.State.{Lawful}
 use Rattle.bridge.specs.Links.{linksOf, linkNo, linkCount}
 use Rattle.bridge.specs.Chosen.{chosenOf}

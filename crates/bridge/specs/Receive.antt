@@ -3,28 +3,28 @@ use mathlib.Core.List.{List}
 use Prim.Native.Nat.{ℕ, _-_}
 use lib.ListN.{getD}
 use Rattle.times.specs.declared.LocalTime.{LocalTime}
-use Rattle.delay.specs.declared.DelaySetting.{DelaySetting}
 use Rattle.choice.specs.Choose.{chosenHop}
 use Rattle.frame.specs.Read.{readOf}
 use Rattle.frame.specs.declared.Fields.{Fields}
 use Rattle.frame.specs.declared.Reading.{Reading}
 use Rattle.frame.specs.declared.Reading.the-variants.{Frame, Refused}
 use Rattle.port.specs.Receive.{receivedOf}
-use Rattle.table.specs.Table.{portAt}
-use Rattle.table.specs.Arguments.{portRefusal}
-use Rattle.table.specs.Fits.{measuredSetting}
+use Rattle.port.specs.declared.Setting.{Setting}
+use Rattle.bridge.specs.Table.{portAt}
+use Rattle.bridge.specs.Arguments.{portRefusal}
+use Rattle.bridge.specs.Fits.{measuredSetting}
 use Rattle.bridge.specs.State.{answers, storesPort, refusedOr}
 use Rattle.bridge.specs.Chosen.{chosenOf}
 use Rattle.bridge.specs.declared.Bridge.{Bridge}
 use Rattle.bridge.specs.declared.Done.{Done}
 
--- how the port at index i comes by its delay
-abbrev pub delayAt : Bridge → ℕ → DelaySetting
-delayAt b i = getD (b .setup .settings) i measuredSetting .delay
+-- the port at index i's part of the setup
+abbrev pub settingAt : Bridge → ℕ → Setting
+settingAt b i = getD (b .setup .settings) i measuredSetting
 
 -- a frame that was read: steps 1 to 5, with H of the state before the call
 unfoldable pub receiveFieldsOf : Bridge → ℕ → Fields → LocalTime → Done
-receiveFieldsOf b i f at = storesPort b i (receivedOf (delayAt b i) (chosenHop (chosenOf b)) f at (portAt (b .ports) i))
+receiveFieldsOf b i f at = storesPort b i (receivedOf (settingAt b i) (chosenHop (chosenOf b)) f at (portAt (b .ports) i))
 
 -- 4, 5 or 6 by the frame's bytes, then 7 to 9
 abbrev pub readBy : Bridge → ℕ → Reading → LocalTime → Done

@@ -9,8 +9,8 @@ use Rattle.times.specs.declared.LocalTime.{LocalTime}
 use Rattle.samples.specs.declared.Samples.{Samples}
 use Rattle.port.specs.Send.{sendingOf, sendingDone, sendingBytes}
 use Rattle.port.specs.declared.Sending.{Sending}
-use Rattle.table.specs.Table.{portAt, samplesOfChoice}
-use Rattle.table.specs.Arguments.{sendRefusal}
+use Rattle.bridge.specs.Table.{portAt, samplesOfChoice}
+use Rattle.bridge.specs.Arguments.{sendRefusal}
 use Rattle.bridge.specs.State.{storesPort, refusedOr}
 use Rattle.bridge.specs.Chosen.{chosenOf}
 use Rattle.bridge.specs.declared.Bridge.{Bridge}
@@ -22,7 +22,7 @@ chosenSamples b = samplesOfChoice (chosenOf b) (b .clock) (b .ports)
 
 -- the frame that the port at index i sends at t, or 10 to 13
 unfoldable pub sendingAt : Bridge → ℕ → LocalTime → Sending
-sendingAt b i t = sendingOf (chosenOf b) (chosenSamples b) (b .setup .mac) (b .setup .back) t (portAt (b .ports) i)
+sendingAt b i t = sendingOf (chosenOf b) (chosenSamples b) (b .setup .sender) t (portAt (b .ports) i)
 
 -- 2, 3 and 4 first; else the port's next frameCount is used up, also by a refusal with 10 to 13
 unfoldable pub sendOf : Bridge → ℕ → ℕ → ℕ → Done

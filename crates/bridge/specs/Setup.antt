@@ -4,9 +4,9 @@ use Prim.Native.Nat.{ℕ, _^_}
 use lib.ListN.{replicate}
 use Rattle.refusals.specs.Refusals.{done, badSetup}
 use Rattle.port.specs.Record.{emptyPort, emptyClock}
-use Rattle.table.specs.Table.{mostPorts}
-use Rattle.table.specs.Fits.{setupFits, noSetup}
-use Rattle.table.specs.declared.Setup.{Setup}
+use Rattle.bridge.specs.Table.{mostPorts}
+use Rattle.bridge.specs.Fits.{setupFits, noSetup}
+use Rattle.bridge.specs.declared.Setup.{Setup}
 use Rattle.bridge.specs.State.{stateOf, answers}
 use Rattle.bridge.specs.declared.Bridge.{Bridge}
 use Rattle.bridge.specs.declared.Done.{Done}

@@ -6,14 +6,14 @@ use Prim.Native.Nat.{ℕ, _^_, _<_, _≤_}
 use lib.Dec.{eqb}
 use lib.ListN.{length, set}
 use Rattle.refusals.specs.Refusals.{done}
-use Rattle.line.specs.Sent.{longestElapsed}
+use Rattle.timeline.specs.Sent.{longestElapsed}
 use Rattle.port.specs.Lawful.{LawfulPort, LawfulClock}
 use Rattle.port.specs.declared.Port.{Port}
 use Rattle.port.specs.declared.OwnClock.{OwnClock}
 use Rattle.port.specs.declared.PortDone.{PortDone}
 use Rattle.port.specs.declared.ClockDone.{ClockDone}
-use Rattle.table.specs.Table.{portAt, mostPorts}
-use Rattle.table.specs.declared.Setup.{Setup}
+use Rattle.bridge.specs.Table.{portAt, mostPorts}
+use Rattle.bridge.specs.declared.Setup.{Setup}
 use Rattle.bridge.specs.declared.Bridge.{Bridge}
 use Rattle.bridge.specs.declared.Done.{Done}
 use Rattle.bridge.specs.declared.Linked.{Linked}
@@ -24,7 +24,7 @@ pub record Lawful (b : Bridge) : Type 0 where
   pub delays : length (b .setup .settings) ≡ mostPorts
   pub ports-most : b .setup .n ≤ mostPorts
   pub links-most : b .links < 2 ^ b .setup .n
-  pub back-small : b .setup .back < longestElapsed
+  pub back-small : b .setup .sender .back < longestElapsed
   pub clock-lawful : LawfulClock (b .clock)
   pub ports-lawful : (i : ℕ) → LawfulPort (portAt (b .ports) i)
 

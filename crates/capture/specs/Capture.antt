@@ -4,10 +4,10 @@ use mathlib.Core.List.{List}
 use Prim.Native.Nat.{ℕ}
 use lib.ListN.{getD, drop}
 use Rattle.refusals.specs.Refusals.{badLine}
-use Rattle.numbers.specs.Digits.{numberAt}
+use Rattle.numbers.specs.Bytes.{numberAt}
 use Rattle.choice.specs.Choose.{shownPort, shownHop}
 use Rattle.choice.specs.declared.Candidate.{Candidate}
-use Rattle.table.specs.Fits.{plainSetup}
+use Rattle.bridge.specs.Fits.{plainSetup}
 use Rattle.bridge.specs.Setup.{defaultTimeout, setupOf}
 use Rattle.bridge.specs.Links.{linksOf}
 use Rattle.bridge.specs.Chosen.{chosenOf}
@@ -31,11 +31,11 @@ listingBack = 10995116278
 unfoldable pub startOf : Bridge
 startOf = linksOf (setupOf (plainSetup listingPorts defaultTimeout listingBack) .next) bothLinked .next
 
--- the digits of a line
+-- the numberBytes of a line
 abbrev pub lineDigits : ℕ
 lineDigits = 142
 
--- s is 142 digits
+-- s is 142 numberBytes
 abbrev pub isLine : List ℕ → Bool
 isLine s = exactly lineDigits s
 

@@ -9,9 +9,7 @@ ghost use Rattle.capture.specs.Capture.{startOf, listedText, listedOf};
 use answer::Answered;
 use bridge::Bridge;
 use choice::Candidate;
-use choice::candidates;
 use hex::digits;
-use table::records;
 
 // The listing's bridge: two ports, both linked, and a backTime of 10 ms, which is not the default.
 const PORTS: u8 = 2;
@@ -37,9 +35,13 @@ pub fn start() -> Bridge
     ensures { λ r. ⌜ r ≡ startOf ⌝ }
     ensures { λ r. ⌜ Lawful r ⌝ }
 {
-    let first = bridge::setup(records::plain_setup(PORTS, bridge::DEFAULT_TIMEOUT, BACK));
+    let first = bridge_setup::setup(bridge_setup::plain_setup(
+        PORTS,
+        bridge::DEFAULT_TIMEOUT,
+        BACK,
+    ));
     let down = first.next;
-    let linked = bridge::links(down, BOTH_LINKED);
+    let linked = bridge_links::links(down, BOTH_LINKED);
     linked.next
 }
 
@@ -48,8 +50,8 @@ fn listed(choice: Candidate, answer: u8, out: &mut [u8]) -> usize
     requires { ⌜ longestAnswer ≤ length (now out) ⌝ }
     ensures { λ r. ⌜ Prints (listedText answer choice) r (now (out .entry)) (now (out .exit)) ⌝ }
 {
-    let port = candidates::shown_port(choice);
-    let hop = candidates::shown_hop(choice);
+    let port = choice_candidates::shown_port(choice);
+    let hop = choice_candidates::shown_hop(choice);
     columns::three(out, answer, port, hop)
 }
 
@@ -62,16 +64,16 @@ pub fn answer_line(b: Bridge, text: &[u8], out: &mut [u8]) -> Answered
     if !digits::exactly(text, LINE_DIGITS) {
         return Answered {
             next: b,
-            len: listed(bridge::chosen(b), refusals::BAD_LINE, out),
+            len: listed(bridge_chosen::chosen(b), refusals::BAD_LINE, out),
         };
     }
     let mut line = [0u8; 71];
     digits::bytes(text, &mut line);
-    let arrival = numbers::digits::number_at(&line, ARRIVAL_PLACE, ARRIVAL_BYTES);
-    let done = bridge::receive(b, line[PORT_PLACE], &line[FRAME_PLACE..], arrival);
+    let arrival = numbers::bytes::number_at(&line, ARRIVAL_PLACE, ARRIVAL_BYTES);
+    let done = bridge_receive::receive(b, line[PORT_PLACE], &line[FRAME_PLACE..], arrival);
     let next = done.next;
     Answered {
         next: next,
-        len: listed(bridge::chosen(next), done.answer, out),
+        len: listed(bridge_chosen::chosen(next), done.answer, out),
     }
 }

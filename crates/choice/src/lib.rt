@@ -1,8 +1,4 @@
 // How good a clock is, and the choice between clocks.
-pub mod candidates;
-pub mod hop;
-pub mod order;
-pub mod ranks;
 
 use times::LocalTime;
 

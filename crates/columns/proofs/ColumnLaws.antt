@@ -1,12 +1,12 @@
--- Laws of lines by columns: lengths, one byte of a number, and two texts one after the other.
-use mathlib.Core.Path.{_≡_, refl, sym, ap, _∙_}
+-- Laws of lines by columns: lengths, one byte of a number, two texts one after the other, and a text that is equal to another.
+use mathlib.Core.Path.{_≡_, refl, sym, ap, _∙_, subst}
 use Prim.Native.Nat.{ℕ, zero, suc, _+_, _*_, _-_, _/_, _%_, _<_, _≤_}
 use mathlib.Core.List.{List, [], _∷_, _++_, append-assoc}
 use native.Mathlib.Numerals.{add-one}
 use native.Mathlib.Omega.{arith}
 use lib.ListN.{length, take, drop, getD, take-append-drop, length-append}
 use lib.Seq.{drop-cons, length-take-le, take-append-le, take-take, take-at, drop-at, drop-drop}
-use Rattle.numbers.specs.Digits.{digits}
+use Rattle.numbers.specs.Bytes.{numberBytes}
 use Rattle.numbers.proofs.Places.{length-digits}
 use Rattle.hex.specs.Print.{textOf, withByte}
 use Rattle.hex.proofs.PrintLaws.{with-byte, text-append, length-text}
@@ -20,7 +20,7 @@ unfolding columnText
 column-character zero v e = refl
 column-character (suc w) v e = absurd (omega arith)
 
-pub column-number : (w v : ℕ) → (w ≡ 0 → ⊥) → (columnRoom w ≡ w * 2) × (columnText w v ≡ textOf (digits w v))
+pub column-number : (w v : ℕ) → (w ≡ 0 → ⊥) → (columnRoom w ≡ w * 2) × (columnText w v ≡ textOf (numberBytes w v))
 unfolding columnText
 column-number zero v h = absurd (h refl)
 column-number (suc w) v h = (refl, refl)
@@ -38,7 +38,7 @@ bytes-some (b ∷ s) h = refl
 pub length-column : (w v : ℕ) → length (columnText w v) ≡ columnRoom w
 unfolding columnText
 length-column zero v = refl
-length-column (suc w) v = length-text (digits (suc w) v) ∙ ap (λ (n : ℕ). n * 2) (length-digits (suc w) v)
+length-column (suc w) v = length-text (numberBytes (suc w) v) ∙ ap (λ (n : ℕ). n * 2) (length-digits (suc w) v)
 
 pub length-columns : (ws vs : List ℕ) → length ws ≡ length vs → length (columnsText ws vs) ≡ room ws
 unfolding columnsText
@@ -47,7 +47,7 @@ length-columns (w ∷ ws) [] e = absurd (omega arith)
 length-columns (w ∷ ws) (v ∷ vs) e =
     length-append (columnText w v) (columnsText ws vs) ∙ omega (arith, length-column w v, length-columns ws vs (omega arith))
 
--- bytes fit where the mark and all digits fit
+-- bytes fit where the mark and all numberBytes fit
 pub bytes-fit : (s : List ℕ) (n : ℕ) → 1 ≤ n → length s * 2 ≤ n → length (bytesText s) ≤ n
 bytes-fit [] n h k = h
 bytes-fit (b ∷ s) n h k = omega (arith, length-text (b ∷ s))
@@ -59,7 +59,7 @@ bytes-most s h = omega (arith, length-append (bytesText s) (newline ∷ []), byt
 -- ---- one byte of a number, from the last
 
 pub number-step : (out t : List ℕ) (at rest i : ℕ) → 0 < i → at + i * 2 ≤ length out → t ≡ withByte out (at + (i - 1) * 2) (rest % 256)
-    → take at t ++ (textOf (digits (i - 1) (rest / 256)) ++ drop (at + (i - 1) * 2) t) ≡ take at out ++ (textOf (digits i rest) ++ drop (at + i * 2) out)
+    → take at t ++ (textOf (numberBytes (i - 1) (rest / 256)) ++ drop (at + (i - 1) * 2) t) ≡ take at out ++ (textOf (numberBytes i rest) ++ drop (at + i * 2) out)
 unfolding textOf
 number-step out t at rest zero p h e = absurd (omega arith)
 number-step out t at rest (suc k) p h e =
@@ -71,7 +71,7 @@ number-step out t at rest (suc k) p h e =
     let m : n + 2 ≡ at + suc k * 2 = omega arith in
     let x : take at t ≡ take at out = ap (take at) f ∙ take-append-le at (take n out) (b ++ drop (n + 2) out) (omega arith) ∙ take-take at n out (omega arith) in
     let y : drop n t ≡ b ++ drop (n + 2) out = ap (drop n) f ∙ drop-at (take n out) (b ++ drop (n + 2) out) n q in
-    rw (z, x, y, text-append (digits k (rest / 256)) (rest % 256 ∷ []), append-assoc (textOf (digits k (rest / 256))) b (drop (at + suc k * 2) out), m) refl
+    rw (z, x, y, text-append (numberBytes k (rest / 256)) (rest % 256 ∷ []), append-assoc (textOf (numberBytes k (rest / 256))) b (drop (at + suc k * 2) out), m) refl
 
 -- ---- a text in the output from `at` up to `end`, whose rest is as it was
 
@@ -116,3 +116,8 @@ printed {text = text} {was = was} p f =
       bytes = p .1 ∙ ap (λ (k : ℕ). text ++ drop k was) l;
       fits = f;
     }
+
+-- ---- what is printed of one text is printed of its equal
+
+pub as-prints : {want other : List ℕ} {len : ℕ} {was left : List ℕ} → want ≡ other → Prints want len was left → Prints other len was left
+as-prints {len = len} {was = was} {left = left} e s = subst (λ (w : List ℕ). Prints w len was left) e s

@@ -1,26 +1,26 @@
--- A line of text by columns: numbers as digits, and single characters.
+-- A line of text by columns: numbers as numberBytes, and single characters.
 use Prim.Native.Nat.{ℕ, zero, suc, _+_, _*_, _%_, _≤_}
 use mathlib.Core.Path.{_≡_}
 use mathlib.Core.List.{List, [], _∷_, _++_}
 use lib.ListN.{length, drop}
 use Rattle.hex.specs.Character.{space, newline, noBytesMark}
-use Rattle.numbers.specs.Digits.{digits}
+use Rattle.numbers.specs.Bytes.{numberBytes}
 use Rattle.hex.specs.Print.{textOf}
 
 -- the most bytes on a line
 abbrev pub mostBytes : ℕ
 mostBytes = 128
 
--- the longest line: an answer, a space, that many bytes as digits, a newline
+-- the longest line: an answer, a space, that many bytes as numberBytes, a newline
 abbrev pub longestAnswer : ℕ
 longestAnswer = 260
 
 -- ---- columns
 
--- the w low bytes of v as digits; at the width 0 the character v itself
+-- the w low bytes of v as numberBytes; at the width 0 the character v itself
 unfoldable pub columnText : ℕ → ℕ → List ℕ
 columnText zero v = v % 256 ∷ []
-columnText (suc w) v = textOf (digits (suc w) v)
+columnText (suc w) v = textOf (numberBytes (suc w) v)
 
 -- the columns of those widths and values, up to the end of the shorter list
 unfoldable pub columnsText : List ℕ → List ℕ → List ℕ

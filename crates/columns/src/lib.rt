@@ -3,7 +3,7 @@ ghost use mathlib.Core.Path.{_≡_};
 ghost use mathlib.Core.List.{_++_};
 ghost use Prim.Native.Nat.{_+_, _*_, _≤_};
 ghost use lib.ListN.{length, take, drop};
-ghost use Rattle.numbers.specs.Digits.{digits};
+ghost use Rattle.numbers.specs.Bytes.{numberBytes};
 ghost use Rattle.hex.specs.Print.{textOf};
 ghost use Rattle.columns.specs.Columns.{columnText, columnsText, columnRoom, room, bytesText, bytesLine, line1, line2, line3, lineWith, lineTime, mostBytes, longestAnswer, Prints};
 use hex::digits;
@@ -34,7 +34,7 @@ const BYTE_VALUES: u64 = 256;
 // Stores the digits of the `width` low bytes of a number from `at` on, the last first.
 fn put_number(out: &mut [u8], at: usize, width: usize, value: u64)
     requires { ⌜ at + width * 2 ≤ length (now out) ⌝ }
-    ensures { λ _. ⌜ now (out .exit) ≡ take at (now (out .entry)) ++ (textOf (digits width value) ++ drop (at + width * 2) (now (out .entry))) ⌝ }
+    ensures { λ _. ⌜ now (out .exit) ≡ take at (now (out .entry)) ++ (textOf (numberBytes width value) ++ drop (at + width * 2) (now (out .entry))) ⌝ }
 {
     let mut rest = value;
     let mut i = width;

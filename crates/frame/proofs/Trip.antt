@@ -7,7 +7,7 @@ use native.Mathlib.Omega.{arith}
 use lib.Dec.{lit<, lit≤}
 use lib.ListN.{length, take, drop, getD, length-append}
 use lib.Seq.{take-all, take-at}
-use Rattle.numbers.specs.Digits.{onto, numberAt, digits, Bytes}
+use Rattle.numbers.specs.Bytes.{onto, numberAt, numberBytes, Bytes}
 use Rattle.numbers.specs.Table.{total, parted, joined, Held}
 use Rattle.times.specs.Times.{units, InRange}
 use Rattle.choice.specs.Precedence.{precedenceOf}
@@ -126,8 +126,8 @@ rows-from f t k h = drop-joined widths (valuesOf f) t k h refl
 pub grand-bytes : (f : Fields) (t : List ℕ) → InRange (f .grand) → numberAt (bytesOf f t) 32 10 ≡ units (f .grand)
 unfolding joined
 grand-bytes f t r =
-    let s = digits 5 (f .grand .0) in
-    let x = digits 5 (f .grand .1) in
+    let s = numberBytes 5 (f .grand .0) in
+    let x = numberBytes 5 (f .grand .1) in
     let rest = joined (drop 20 widths) (drop 20 (valuesOf f)) t in
     let both : length (s ++ x) ≡ 10 = length-append s x ∙ (λ i. length-digits 5 (f .grand .0) i + length-digits 5 (f .grand .1) i) in
     let value : onto 0 s ≡ f .grand .0 = value-digits 5 (f .grand .0) (r .seconds) in
@@ -139,8 +139,8 @@ grand-bytes f t r =
     ∙ (λ i. f .grand .0 * 256 ^ length-digits 5 (f .grand .1) i + value-digits 5 (f .grand .1) (r .fraction) i)
 
 -- a row of a single byte makes its value
-byte-value : (v : ℕ) (rest : List ℕ) → v < 256 → onto 0 (take 1 (digits 1 v ++ rest)) ≡ v
-byte-value v rest h = ap (onto 0) (take-at (digits 1 v) rest 1 (length-digits 1 v)) ∙ value-digits 1 v h
+byte-value : (v : ℕ) (rest : List ℕ) → v < 256 → onto 0 (take 1 (numberBytes 1 v ++ rest)) ≡ v
+byte-value v rest h = ap (onto 0) (take-at (numberBytes 1 v) rest 1 (length-digits 1 v)) ∙ value-digits 1 v h
 
 -- byte 29 is the hopCount
 pub hop-byte : (f : Fields) (t : List ℕ) → f .hop < 256 → numberAt (bytesOf f t) 29 1 ≡ f .hop

@@ -1,8 +1,5 @@
 // The timeSync frame of 64 bytes: read, written, and the better of two.
-pub mod better;
 pub mod layout;
-pub mod read;
-pub mod write;
 
 use choice::Precedence;
 use times::ErrorTime;

@@ -9,7 +9,7 @@ use lib.Arith.{digits-lt, digits-div, digits-mod}
 use lib.Dec.{lit<}
 use lib.ListN.{length, take, drop, getD, set, length-set, length-append, length-drop}
 use lib.Seq.{drop-cons, getD-set-same, drop-set-lt, append-snoc, take-suc, take-add, drop-drop, getD-drop, length-take-le}
-use Rattle.numbers.specs.Digits.{onto, numberAt, digits, Bytes}
+use Rattle.numbers.specs.Bytes.{onto, numberAt, numberBytes, Bytes}
 
 -- ---- the loop that reads
 
@@ -36,11 +36,11 @@ put-next out b k h =
 
 -- what is left to put and what stands, before and after a byte
 pub put-step : (out : List ℕ) (rest i : ℕ) → 0 < i → i ≤ length out
-    → digits (i - 1) (rest / 256) ++ drop (i - 1) (set out (i - 1) (rest % 256)) ≡ digits i rest ++ drop i out
+    → numberBytes (i - 1) (rest / 256) ++ drop (i - 1) (set out (i - 1) (rest % 256)) ≡ numberBytes i rest ++ drop i out
 put-step out rest zero h l = absurd (omega arith)
 put-step out rest (suc k) h l =
     let h' : k < length out = omega arith in
-    rw (sub-one, put-next) (sym (append-snoc (digits k (rest / 256)) (rest % 256) (drop (suc k) out)))
+    rw (sub-one, put-next) (sym (append-snoc (numberBytes k (rest / 256)) (rest % 256) (drop (suc k) out)))
 
 -- ---- a number and its bytes
 
@@ -51,20 +51,20 @@ pub onto-append : (v : ℕ) (xs ys : List ℕ) → onto v (xs ++ ys) ≡ onto (o
 onto-append v [] ys = refl
 onto-append v (x ∷ xs) ys = onto-append (v * 256 + x) xs ys
 
-pub length-digits : (n v : ℕ) → length (digits n v) ≡ n
+pub length-digits : (n v : ℕ) → length (numberBytes n v) ≡ n
 length-digits zero v = refl
-length-digits (suc n) v = length-append (digits n (v / 256)) (v % 256 ∷ []) ∙ rw (length-digits n (v / 256)) (omega arith)
+length-digits (suc n) v = length-append (numberBytes n (v / 256)) (v % 256 ∷ []) ∙ rw (length-digits n (v / 256)) (omega arith)
 
 -- a number that fits its width is what its bytes make
-pub value-digits : (n v : ℕ) → v < 256 ^ n → onto 0 (digits n v) ≡ v
+pub value-digits : (n v : ℕ) → v < 256 ^ n → onto 0 (numberBytes n v) ≡ v
 value-digits zero v h = omega arith
 value-digits (suc n) v h =
-    onto-append 0 (digits n (v / 256)) (v % 256 ∷ [])
+    onto-append 0 (numberBytes n (v / 256)) (v % 256 ∷ [])
     ∙ ap (λ (q : ℕ). q * 256 + v % 256) (value-digits n (v / 256) (div-lt-iff-lt-mul (lit< tt) .1 (rw pow-suc at h)))
     ∙ div-add-mod' v 256
 
--- bytes are the digits of what they make
-pub digits-value : (s : List ℕ) → Bytes s → (n : ℕ) → n ≤ length s → digits n (onto 0 (take n s)) ≡ take n s
+-- bytes are the numberBytes of what they make
+pub digits-value : (s : List ℕ) → Bytes s → (n : ℕ) → n ≤ length s → numberBytes n (onto 0 (take n s)) ≡ take n s
 digits-value s b zero h = refl
 digits-value s b (suc n) h =
     let l : n < length s = omega arith in

@@ -7,7 +7,7 @@ use native.Mathlib.Numerals.{sub-one}
 use native.Mathlib.Omega.{arith}
 use lib.ListN.{length, take, drop, getD, set, length-append, length-drop}
 use lib.Seq.{drop-cons, take-append-le, take-take, take-add, drop-drop, take-at, drop-at, length-take-le}
-use Rattle.numbers.specs.Digits.{numberAt, digits, spliced, Bytes}
+use Rattle.numbers.specs.Bytes.{numberAt, numberBytes, spliced, Bytes}
 use Rattle.numbers.specs.Table.{total, parted, joined, Held}
 use Rattle.numbers.proofs.Places.{bytes-drop, put-next, length-digits, value-digits, digits-value, number-at-small}
 
@@ -95,14 +95,14 @@ unfolding joined
 length-joined [] [] t h = omega arith
 length-joined [] (v ∷ vs) t h = absurd h
 length-joined (w ∷ ws) [] t h = absurd h
-length-joined (w ∷ ws) (v ∷ vs) t h = omega (arith, length-append (digits w v) (joined ws vs t), length-digits w v, length-joined ws vs t (h .1))
+length-joined (w ∷ ws) (v ∷ vs) t h = omega (arith, length-append (numberBytes w v) (joined ws vs t), length-digits w v, length-joined ws vs t (h .1))
 
 -- what is put after the table's bytes comes after them
 pub joined-append : (ws vs t : List ℕ) → joined ws vs t ≡ joined ws vs [] ++ t
 unfolding joined
 joined-append [] vs t = refl
 joined-append (w ∷ ws) [] t = refl
-joined-append (w ∷ ws) (v ∷ vs) t = rw (append-assoc) (ap (λ (l : List ℕ). digits w v ++ l) (joined-append ws vs t))
+joined-append (w ∷ ws) (v ∷ vs) t = rw (append-assoc) (ap (λ (l : List ℕ). numberBytes w v ++ l) (joined-append ws vs t))
 
 -- bytes taken apart and put together again
 pub joined-parted : (ws : List ℕ) (a : ℕ) (s t : List ℕ) → Bytes s → a + total ws ≤ length s
@@ -119,11 +119,11 @@ parted-joined [] [] p t a e h = refl
 parted-joined [] (v ∷ vs) p t a e h = absurd h
 parted-joined (w ∷ ws) [] p t a e h = absurd h
 parted-joined (w ∷ ws) (v ∷ vs) p t a e h =
-    let s = p ++ (digits w v ++ joined ws vs t) in
+    let s = p ++ (numberBytes w v ++ joined ws vs t) in
     let here : numberAt s a w ≡ v =
-    rw (drop-at p (digits w v ++ joined ws vs t) a e, take-at (digits w v) (joined ws vs t) w (length-digits w v)) (value-digits w v (h .0)) in
-    let l : length (p ++ digits w v) ≡ a + w = length-append p (digits w v) ∙ rw (e, length-digits) refl in
-    let rest : parted ws (a + w) ((p ++ digits w v) ++ joined ws vs t) ≡ vs = parted-joined ws vs (p ++ digits w v) t (a + w) l (h .1) in
+    rw (drop-at p (numberBytes w v ++ joined ws vs t) a e, take-at (numberBytes w v) (joined ws vs t) w (length-digits w v)) (value-digits w v (h .0)) in
+    let l : length (p ++ numberBytes w v) ≡ a + w = length-append p (numberBytes w v) ∙ rw (e, length-digits) refl in
+    let rest : parted ws (a + w) ((p ++ numberBytes w v) ++ joined ws vs t) ≡ vs = parted-joined ws vs (p ++ numberBytes w v) t (a + w) l (h .1) in
     λ i. here i ∷ (rw append-assoc at rest) i
 
 -- the rows from k on stand where those before them end, whatever their values
@@ -133,6 +133,6 @@ drop-joined ws vs t zero h e = refl
 drop-joined [] vs t (suc k) h e = absurd (omega arith)
 drop-joined (w ∷ ws) [] t (suc k) h e = absurd (omega arith)
 drop-joined (w ∷ ws) (v ∷ vs) t (suc k) h e =
-    sym (drop-drop (total (take k ws)) w (digits w v ++ joined ws vs t))
-    ∙ ap (drop (total (take k ws))) (drop-at (digits w v) (joined ws vs t) w (length-digits w v))
+    sym (drop-drop (total (take k ws)) w (numberBytes w v ++ joined ws vs t))
+    ∙ ap (drop (total (take k ws))) (drop-at (numberBytes w v) (joined ws vs t) w (length-digits w v))
     ∙ drop-joined ws vs t k (omega arith) (omega arith)

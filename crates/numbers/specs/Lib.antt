@@ -1,3 +1,3 @@
 pub mod Whole
-pub mod Digits
+pub mod Bytes
 pub mod Table

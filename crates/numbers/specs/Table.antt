@@ -1,7 +1,7 @@
 -- Numbers side by side in bytes, by a table of their widths.
 use Prim.Native.Nat.{ℕ, _+_, _^_, _<_}
 use mathlib.Core.List.{List, [], _∷_, _++_}
-use Rattle.numbers.specs.Digits.{numberAt, digits}
+use Rattle.numbers.specs.Bytes.{numberAt, numberBytes}
 
 -- the bytes that the whole table takes
 abbrev pub total : List ℕ → ℕ
@@ -17,7 +17,7 @@ parted (w ∷ ws) a s = numberAt s a w ∷ parted ws (a + w) s
 unfoldable pub joined : List ℕ → List ℕ → List ℕ → List ℕ
 joined [] vs t = t
 joined (w ∷ ws) [] t = t
-joined (w ∷ ws) (v ∷ vs) t = digits w v ++ joined ws vs t
+joined (w ∷ ws) (v ∷ vs) t = numberBytes w v ++ joined ws vs t
 
 -- each value fits its width, and there are as many as widths
 abbrev pub Held : List ℕ → List ℕ → Type 0

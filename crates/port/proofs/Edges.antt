@@ -7,8 +7,8 @@ use Rattle.choice.specs.Choose.{chosenHop}
 use Rattle.samples.specs.Rate.{gainOf, rateOf, scaledOf}
 use Rattle.samples.specs.Keep.{keptOf, endsOf}
 use Rattle.delay.specs.Delay.{delayOf}
-use Rattle.line.specs.Line.{readingAt}
-use Rattle.line.specs.Sent.{sentTime, sentOf}
+use Rattle.timeline.specs.Line.{readingAt}
+use Rattle.timeline.specs.Sent.{sentTime, sentOf}
 use Rattle.port.specs.Edges.{Row, table}
 
 pub claim : map (λ (r : Row). r .got) table ≡ map (λ (r : Row). r .says) table

@@ -7,7 +7,7 @@ use native.Mathlib.Omega.{arith}
 use borrow.Author.Tests.{eq-eqb, ne-eqb}
 use lib.Dec.{eqb}
 use lib.ListN.{length}
-use Rattle.numbers.specs.Digits.{Bytes}
+use Rattle.numbers.specs.Bytes.{Bytes}
 use Rattle.numbers.specs.Table.{Held}
 use Rattle.times.specs.Times.{circle, InRange, nextCount}
 use Rattle.choice.specs.Hop.{lastHop, hopOf}
@@ -20,10 +20,9 @@ use Rattle.samples.specs.declared.Samples.{Samples}
 use Rattle.samples.specs.declared.Pair.{Pair}
 use Rattle.samples.specs.declared.Pair.the-variants.{Unset, Set}
 use Rattle.delay.specs.Delay.{linkDelayOf}
-use Rattle.line.specs.declared.Sent.{Sent}
-use Rattle.line.specs.declared.Sent.the-variants.{At, Few, Late, Beyond}
-use Rattle.line.specs.Sent.{sentOf}
-use Rattle.delay.specs.declared.DelaySetting.{DelaySetting}
+use Rattle.timeline.specs.declared.Sent.{Sent}
+use Rattle.timeline.specs.declared.Sent.the-variants.{At, Few, Late, Beyond}
+use Rattle.timeline.specs.Sent.{sentOf}
 use Rattle.delay.specs.declared.Delay.{Delay}
 use Rattle.delay.specs.declared.Delay.the-variants.{Is, TooLong}
 use Rattle.choice.specs.declared.Precedence.{Precedence}
@@ -34,12 +33,13 @@ use Rattle.frame.specs.Read.{rowsOf, readOf}
 use Rattle.frame.specs.Write.{writeRefusal}
 use Rattle.frame.specs.declared.Reading.the-variants as Frames
 use Rattle.frame.specs.declared.Fields.{Fields}
-use Rattle.frame.specs.declared.Mac.{Mac}
 use Rattle.port.specs.Record.{silenced, tooOld, agedPort, emptyPort, usedPort}
 use Rattle.port.specs.Lawful.{LawfulPreceding, LawfulPair, LawfulPort, LawfulClock, FieldsInRange}
 use Rattle.port.specs.Own.{storedAs, ownSample, ownReadingBy, ownReadingOf}
 use Rattle.port.specs.Receive.{sampleOf, sameClock, takenPort, refusedBy, delayedBy, followedBy, countedBy, receivedOf}
-use Rattle.port.specs.Send.{echoTx, echoRx, frameOf, sendingBy, sendingOf, sendingNo}
+use Rattle.port.specs.Send.{echoTx, echoRx, frameOf, sendingBy, sendingOf, sendingNo, sendingDone}
+use Rattle.port.specs.declared.Setting.{Setting}
+use Rattle.port.specs.declared.Sender.{Sender}
 use Rattle.port.specs.declared.Sending.{Sending}
 use Rattle.port.specs.declared.Sending.the-variants.{Refused, Frame}
 use Rattle.port.specs.declared.Preceding.{Preceding}
@@ -51,7 +51,7 @@ use Rattle.port.specs.declared.ClockDone.{ClockDone}
 use Rattle.numbers.proofs.Table.{held-at, held-parted}
 use Rattle.numbers.proofs.Branches.{if-true, if-false, if-when}
 use Rattle.samples.proofs.KeepLaws.{kept-lawful}
-use Rattle.line.proofs.SentLaws.{Departure, departure}
+use Rattle.timeline.proofs.SentLaws.{Departure, departure}
 use Rattle.frame.proofs.FrameLaws.{accepted, reading, unrefused}
 
 -- ---- record
@@ -72,7 +72,7 @@ module _ (at : LocalTime) (timeout : ℕ) (port : Port) where
 
 -- ---- receiving
 
-module _ (setting : DelaySetting) (chosen : ℕ) (f : Fields) (at : LocalTime) (port : Port) where
+module _ (setting : Setting) (chosen : ℕ) (f : Fields) (at : LocalTime) (port : Port) where
   pub received-last-hop : f .hop ≡ lastHop → refusedBy 7 (f .count) at port ≡ receivedOf setting chosen f at port
   unfolding receivedOf
   received-last-hop e = if-true _ _ _ (eq-eqb _ _ e)
@@ -95,7 +95,7 @@ module _ (setting : DelaySetting) (chosen : ℕ) (f : Fields) (at : LocalTime) (
   received-other n e k = if-false _ (followedBy setting chosen f _ at port) (refusedBy 8 (f .count) at port) (ne-eqb _ _ k) ∙ by-preceding n e
 
   -- a frame that follows, by its delay
-  pub followed-by : {d : Delay} (p : LocalTime) → d ≡ linkDelayOf setting (neighbourRateOf (port .pair) (f .local) p) (f .local) p (f .tx) (f .rx)
+  pub followed-by : {d : Delay} (p : LocalTime) → d ≡ linkDelayOf (setting .delay) (neighbourRateOf (port .pair) (f .local) p) (f .local) p (f .tx) (f .rx)
       → delayedBy d chosen f p at port ≡ followedBy setting chosen f p at port
   unfolding followedBy
   followed-by p e = ap (λ (d : Delay). delayedBy d chosen f p at port) e
@@ -121,7 +121,7 @@ module _ (count : ℕ) (grand : GrandTime) (at : LocalTime) (clock : OwnClock) w
 -- ---- what a frame comes to
 
 -- what holds of a refusal with 7 to 9, and of a frame that is taken, holds of the frame
-module _ (setting : DelaySetting) (chosen : ℕ) (f : Fields) (at : LocalTime) (port : Port) where
+module _ (setting : Setting) (chosen : ℕ) (f : Fields) (at : LocalTime) (port : Port) where
   pub received-is : (P : PortDone → Type 0) → ((k : ℕ) → 7 ≤ k → k ≤ 9 → P (refusedBy k (f .count) at port))
       → ((count : ℕ) (p : LocalTime) (delay : ℕ) → port .preceding ≡ Was count p → P (record { answer = 0; port = takenPort f (hopOf (f .hop) chosen) p delay at port }))
       → P (receivedOf setting chosen f at port)
@@ -136,11 +136,11 @@ module _ (setting : DelaySetting) (chosen : ℕ) (f : Fields) (at : LocalTime) (
       counted Never e = refuse 8 (omega arith) (omega arith)
       counted (Was count p) e =
           if-when P (eqb (f .count) (nextCount count))
-          (λ _. delayed (linkDelayOf setting (neighbourRateOf (port .pair) (f .local) p) (f .local) p (f .tx) (f .rx)) count p e)
+          (λ _. delayed (linkDelayOf (setting .delay) (neighbourRateOf (port .pair) (f .local) p) (f .local) p (f .tx) (f .rx)) count p e)
           (λ _. refuse 8 (omega arith) (omega arith))
 
 -- the next frameCount of a port stays, whatever it hears and however it ages
-pub received-count : (setting : DelaySetting) (chosen : ℕ) (f : Fields) (at : LocalTime) (port : Port) → receivedOf setting chosen f at port .port .count ≡ port .count
+pub received-count : (setting : Setting) (chosen : ℕ) (f : Fields) (at : LocalTime) (port : Port) → receivedOf setting chosen f at port .port .count ≡ port .count
 received-count setting chosen f at port = received-is setting chosen f at port (λ (r : PortDone). r .port .count ≡ port .count) (λ _ _ _. refl) (λ _ _ _ _. refl)
 
 pub aged-count : (at : LocalTime) (timeout : ℕ) (port : Port) → agedPort at timeout port .count ≡ port .count
@@ -158,46 +158,46 @@ own-reading-is count grand at clock P refuse take = go (clock .preceding)
 
 -- ---- sending
 
-module _ (choice : Candidate) (samples : Samples) (mac : Mac) (back : ℕ) (t : LocalTime) (port : Port) where
-  pub send-none : choice ≡ Nothing → Refused 10 ≡ sendingOf choice samples mac back t port
+module _ (choice : Candidate) (samples : Samples) (sender : Sender) (t : LocalTime) (port : Port) where
+  pub send-none : choice ≡ Nothing → Refused 10 ≡ sendingOf choice samples sender t port
   unfolding sendingOf
-  send-none e = ap (λ (x : Candidate). sendingOf x samples mac back t port) (sym e)
+  send-none e = ap (λ (x : Candidate). sendingOf x samples sender t port) (sym e)
 
-  pub send-by : {p : Precedence} {h n : ℕ} {s : Sent} → choice ≡ Clock p h n → s ≡ sentOf samples t back
-      → sendingBy s mac p h t port ≡ sendingOf choice samples mac back t port
+  pub send-by : {p : Precedence} {h n : ℕ} {s : Sent} → choice ≡ Clock p h n → s ≡ sentOf samples t (sender .back)
+      → sendingBy s sender p h t port ≡ sendingOf choice samples sender t port
   unfolding sendingOf
   send-by {p} {h} {n} e g =
-      ap (λ (x : Sent). sendingBy x mac p h t port) g ∙ ap (λ (x : Candidate). sendingOf x samples mac back t port) (sym e)
+      ap (λ (x : Sent). sendingBy x sender p h t port) g ∙ ap (λ (x : Candidate). sendingOf x samples sender t port) (sym e)
 
   -- what holds of a refusal with 10 to 13, and of a frame for the chosen clock, holds of what is sent
   pub sending-is : (P : Sending → Type 0) → ((k : ℕ) → 10 ≤ k → k ≤ 13 → P (Refused k))
-      → ((p : Precedence) (h : ℕ) (g : GrandTime) (x : ErrorTime) → sentOf samples t back ≡ At g x → P (Frame (frameOf mac p h t g x port)))
-      → P (sendingOf choice samples mac back t port)
+      → ((p : Precedence) (h : ℕ) (g : GrandTime) (x : ErrorTime) → sentOf samples t (sender .back) ≡ At g x → P (Frame (frameOf sender p h t g x port)))
+      → P (sendingOf choice samples sender t port)
   unfolding sendingOf
   sending-is P refuse send = chosen choice
     where
-      by : (s : Sent) → sentOf samples t back ≡ s → (p : Precedence) (h : ℕ) → P (sendingBy s mac p h t port)
+      by : (s : Sent) → sentOf samples t (sender .back) ≡ s → (p : Precedence) (h : ℕ) → P (sendingBy s sender p h t port)
       by (At g x) q p h = send p h g x q
       by Few q p h = refuse 11 (omega arith) (omega arith)
       by Late q p h = refuse 12 (omega arith) (omega arith)
       by Beyond q p h = refuse 13 (omega arith) (omega arith)
 
-      chosen : (c : Candidate) → P (sendingOf c samples mac back t port)
+      chosen : (c : Candidate) → P (sendingOf c samples sender t port)
       chosen Nothing = refuse 10 (omega arith) (omega arith)
-      chosen (Clock p h n) = by (sentOf samples t back) refl p h
+      chosen (Clock p h n) = by (sentOf samples t (sender .back)) refl p h
 
 -- a frame to be sent has its times in range
-pub sending-written : (choice : Candidate) (samples : Samples) (mac : Mac) (back : ℕ) (t : LocalTime) (port : Port) (room : ℕ) (f : Fields)
-    → t .0 < circle → LawfulPort port → frameLength ≤ room → sendingOf choice samples mac back t port ≡ Frame f → writeRefusal f room ≡ 0
-sending-written choice samples mac back t port room f ht l r =
-    sending-is choice samples mac back t port (λ (s : Sending). s ≡ Frame f → writeRefusal f room ≡ 0)
+pub sending-written : (choice : Candidate) (samples : Samples) (sender : Sender) (t : LocalTime) (port : Port) (room : ℕ) (f : Fields)
+    → t .0 < circle → LawfulPort port → frameLength ≤ room → sendingOf choice samples sender t port ≡ Frame f → writeRefusal f room ≡ 0
+sending-written choice samples sender t port room f ht l r =
+    sending-is choice samples sender t port (λ (s : Sending). s ≡ Frame f → writeRefusal f room ≡ 0)
     (λ k _ _ e. let z : _≡_ {A = ℕ} 0 1 = cc in absurd (omega arith))
     (λ p h g x q e.
-    let same : frameOf mac p h t g x port ≡ f = cc in
-    let w = departure samples t back g x q .range in
+    let same : frameOf sender p h t g x port ≡ f = cc in
+    let w = departure samples t (sender .back) g x q .range in
     let m = echo-small (port .echo) (l .echo) in
     subst (λ (f : Fields). writeRefusal f room ≡ 0) same
-    (unrefused (frameOf mac p h t g x port) room
+    (unrefused (frameOf sender p h t g x port) room
     (record { seconds = w .seconds; fraction = w .fraction; local = ht; tx = m .0; rx = m .1; room = r })))
   where
     echo-small : (s : Pair) → LawfulPair s → (echoTx s .0 < circle) × (echoRx s .0 < circle)
@@ -208,13 +208,13 @@ sending-written choice samples mac back t port room f ht l r =
 abbrev pub ReadOff : Samples → LocalTime → ℕ → Fields → Type 0
 ReadOff samples t back f = Departure samples t back (f .grand) (f .error)
 
-pub sending-read-off : (choice : Candidate) (samples : Samples) (mac : Mac) (back : ℕ) (t : LocalTime) (port : Port)
-    → sendingNo (sendingOf choice samples mac back t port) ≡ 0
-    → (f : Fields) × (sendingOf choice samples mac back t port ≡ Frame f) × (f .count ≡ port .count) × ReadOff samples t back f
-sending-read-off choice samples mac back t port =
-    sending-is choice samples mac back t port (λ (s : Sending). sendingNo s ≡ 0 → (f : Fields) × (s ≡ Frame f) × (f .count ≡ port .count) × ReadOff samples t back f)
+pub sending-read-off : (choice : Candidate) (samples : Samples) (sender : Sender) (t : LocalTime) (port : Port)
+    → sendingNo (sendingOf choice samples sender t port) ≡ 0
+    → (f : Fields) × (sendingOf choice samples sender t port ≡ Frame f) × (f .count ≡ port .count) × ReadOff samples t (sender .back) f
+sending-read-off choice samples sender t port =
+    sending-is choice samples sender t port (λ (s : Sending). sendingNo s ≡ 0 → (f : Fields) × (s ≡ Frame f) × (f .count ≡ port .count) × ReadOff samples t (sender .back) f)
     (λ k l _ e. absurd (omega arith))
-    (λ p h g x q _. let f = frameOf mac p h t g x port in (f, refl, refl, departure samples t back g x q))
+    (λ p h g x q _. let f = frameOf sender p h t g x port in (f, refl, refl, departure samples t (sender .back) g x q))
 
 -- the times of a frame that was read are in range
 pub read-in-range : (s : List ℕ) (f : Fields) → Bytes s → readOf s ≡ Frames.Frame f → FieldsInRange f
@@ -239,7 +239,7 @@ used-lawful port l = record { preceding = l .preceding; samples = l .samples; ec
 pub aged-lawful : (at : LocalTime) (timeout : ℕ) (port : Port) → LawfulPort port → LawfulPort (agedPort at timeout port)
 aged-lawful at timeout port l = aged-is at timeout port LawfulPort l (record { preceding = l .preceding; samples = tt; echo = tt })
 
-pub received-lawful : (setting : DelaySetting) (chosen : ℕ) (f : Fields) (at : LocalTime) (port : Port)
+pub received-lawful : (setting : Setting) (chosen : ℕ) (f : Fields) (at : LocalTime) (port : Port)
     → at .0 < circle → FieldsInRange f → LawfulPort port → LawfulPort (receivedOf setting chosen f at port .port)
 received-lawful setting chosen f at port h r l =
     received-is setting chosen f at port (λ (d : PortDone). LawfulPort (d .port))
@@ -256,3 +256,7 @@ own-reading-lawful count grand at clock h r l =
     own-reading-is count grand at clock (λ (t : ClockDone). LawfulClock (t .clock))
     (record { preceding = h; samples = l .samples })
     (λ when. record { preceding = h; samples = kept-lawful (clock .samples) true (ownSample grand when) (l .samples) r })
+
+-- whatever a send is answered with, the port's next frameCount is used up
+pub send-uses-up : (s : Sending) (port : Port) → sendingDone s port .port ≡ usedPort port
+send-uses-up s port = refl

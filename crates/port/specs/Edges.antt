@@ -14,9 +14,9 @@ use Rattle.samples.specs.declared.Sample.{Sample}
 use Rattle.samples.specs.declared.Samples.{Samples}
 use Rattle.samples.specs.declared.Samples.the-variants.{Empty, One, Two}
 use Rattle.delay.specs.Delay.{delayOf}
-use Rattle.line.specs.Sent.{sentOf, sentNo}
-use Rattle.line.specs.declared.Sent.{Sent}
-use Rattle.line.specs.declared.Sent.the-variants.{At, Few, Late, Beyond}
+use Rattle.timeline.specs.Sent.{sentOf, sentNo}
+use Rattle.timeline.specs.declared.Sent.{Sent}
+use Rattle.timeline.specs.declared.Sent.the-variants.{At, Few, Late, Beyond}
 
 -- what the definitions give, and what the paper says
 pub record Row : Type 0 where

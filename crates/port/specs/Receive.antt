@@ -11,7 +11,6 @@ use Rattle.samples.specs.Keep.{keptOf}
 use Rattle.samples.specs.declared.Sample.{Sample}
 use Rattle.samples.specs.declared.Pair.the-variants.{Set}
 use Rattle.delay.specs.Delay.{linkDelayOf, delayNo}
-use Rattle.delay.specs.declared.DelaySetting.{DelaySetting}
 use Rattle.delay.specs.declared.Delay.{Delay}
 use Rattle.delay.specs.declared.Delay.the-variants.{Is, TooLong}
 use Rattle.choice.specs.Precedence.{precedenceOf}
@@ -19,6 +18,7 @@ use Rattle.choice.specs.declared.Precedence.{Precedence}
 use Rattle.choice.specs.declared.Announcement.{Announcement}
 use Rattle.choice.specs.declared.Announcement.the-variants.{Silent, Announced}
 use Rattle.frame.specs.declared.Fields.{Fields}
+use Rattle.port.specs.declared.Setting.{Setting}
 use Rattle.port.specs.declared.Preceding.{Preceding}
 use Rattle.port.specs.declared.Preceding.the-variants.{Never, Was}
 use Rattle.port.specs.declared.Port.{Port}
@@ -58,17 +58,17 @@ delayedBy TooLong chosen f p at port = refusedBy (delayNo TooLong) (f .count) at
 delayedBy (Is delay) chosen f p at port = record { answer = done; port = takenPort f (hopOf (f .hop) chosen) p delay at port }
 
 -- steps 1 and 2, for a frame whose preceding one arrived at p
-unfoldable pub followedBy : DelaySetting → ℕ → Fields → LocalTime → LocalTime → Port → PortDone
+unfoldable pub followedBy : Setting → ℕ → Fields → LocalTime → LocalTime → Port → PortDone
 followedBy setting chosen f p at port =
-    delayedBy (linkDelayOf setting (neighbourRateOf (port .pair) (f .local) p) (f .local) p (f .tx) (f .rx)) chosen f p at port
+    delayedBy (linkDelayOf (setting .delay) (neighbourRateOf (port .pair) (f .local) p) (f .local) p (f .tx) (f .rx)) chosen f p at port
 
 -- 8 where the frameCount does not follow on the preceding one, or there is none
-abbrev pub countedBy : Preceding → DelaySetting → ℕ → Fields → LocalTime → Port → PortDone
+abbrev pub countedBy : Preceding → Setting → ℕ → Fields → LocalTime → Port → PortDone
 countedBy Never setting chosen f at port = refusedBy notNext (f .count) at port
 countedBy (Was count p) setting chosen f at port =
     cond (eqb (f .count) (nextCount count)) (followedBy setting chosen f p at port) (refusedBy notNext (f .count) at port)
 
 -- 7 for the last hop, then 8, then 9; `chosen` is the chosen clock's held hop before the call
-unfoldable pub receivedOf : DelaySetting → ℕ → Fields → LocalTime → Port → PortDone
+unfoldable pub receivedOf : Setting → ℕ → Fields → LocalTime → Port → PortDone
 receivedOf setting chosen f at port =
     cond (eqb (f .hop) lastHop) (refusedBy lastHopHeard (f .count) at port) (countedBy (port .preceding) setting chosen f at port)

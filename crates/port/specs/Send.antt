@@ -9,17 +9,17 @@ use Rattle.times.specs.declared.ErrorTime.{ErrorTime}
 use Rattle.samples.specs.declared.Samples.{Samples}
 use Rattle.samples.specs.declared.Pair.{Pair}
 use Rattle.samples.specs.declared.Pair.the-variants.{Unset, Set}
-use Rattle.line.specs.Sent.{sentOf, sentNo}
-use Rattle.line.specs.declared.Sent.{Sent}
-use Rattle.line.specs.declared.Sent.the-variants.{At, Few, Late, Beyond}
+use Rattle.timeline.specs.Sent.{sentOf, sentNo}
+use Rattle.timeline.specs.declared.Sent.{Sent}
+use Rattle.timeline.specs.declared.Sent.the-variants.{At, Few, Late, Beyond}
 use Rattle.choice.specs.declared.Precedence.{Precedence}
 use Rattle.choice.specs.declared.Candidate.{Candidate}
 use Rattle.choice.specs.declared.Candidate.the-variants.{Nothing, Clock}
 use Rattle.frame.specs.Frame.{frameLength}
 use Rattle.frame.specs.Write.{bytesOf}
-use Rattle.frame.specs.declared.Mac.{Mac}
 use Rattle.frame.specs.declared.Fields.{Fields}
 use Rattle.port.specs.Record.{usedPort}
+use Rattle.port.specs.declared.Sender.{Sender}
 use Rattle.port.specs.declared.Port.{Port}
 use Rattle.port.specs.declared.PortDone.{PortDone}
 use Rattle.port.specs.declared.Sending.{Sending}
@@ -35,9 +35,9 @@ echoRx Unset = record { 0 = 0 }
 echoRx (Set local p) = p
 
 -- the fields of a frame for a clock with this precedence and held hop
-abbrev pub frameOf : Mac → Precedence → ℕ → LocalTime → GrandTime → ErrorTime → Port → Fields
-frameOf mac precedence hop t grand error port = record {
-  sa = mac;
+abbrev pub frameOf : Sender → Precedence → ℕ → LocalTime → GrandTime → ErrorTime → Port → Fields
+frameOf sender precedence hop t grand error port = record {
+  sa = sender .mac;
   precedence = precedence;
   hop = hop;
   count = port .count;
@@ -49,16 +49,16 @@ frameOf mac precedence hop t grand error port = record {
 }
 
 -- 11 to 13 by the sent grand time
-abbrev pub sendingBy : Sent → Mac → Precedence → ℕ → LocalTime → Port → Sending
-sendingBy (At grand error) mac precedence hop t port = Frame (frameOf mac precedence hop t grand error port)
-sendingBy Few mac precedence hop t port = Refused (sentNo Few)
-sendingBy Late mac precedence hop t port = Refused (sentNo Late)
-sendingBy Beyond mac precedence hop t port = Refused (sentNo Beyond)
+abbrev pub sendingBy : Sent → Sender → Precedence → ℕ → LocalTime → Port → Sending
+sendingBy (At grand error) sender precedence hop t port = Frame (frameOf sender precedence hop t grand error port)
+sendingBy Few sender precedence hop t port = Refused (sentNo Few)
+sendingBy Late sender precedence hop t port = Refused (sentNo Late)
+sendingBy Beyond sender precedence hop t port = Refused (sentNo Beyond)
 
 -- 10 where no clock is chosen; else by the samples of the chosen clock
-unfoldable pub sendingOf : Candidate → Samples → Mac → ℕ → LocalTime → Port → Sending
-sendingOf Nothing samples mac back t port = Refused noClock
-sendingOf (Clock precedence hop number) samples mac back t port = sendingBy (sentOf samples t back) mac precedence hop t port
+unfoldable pub sendingOf : Candidate → Samples → Sender → LocalTime → Port → Sending
+sendingOf Nothing samples sender t port = Refused noClock
+sendingOf (Clock precedence hop number) samples sender t port = sendingBy (sentOf samples t (sender .back)) sender precedence hop t port
 
 -- the answer's number
 abbrev pub sendingNo : Sending → ℕ

@@ -1,12 +1,10 @@
 // One port's record and the own clock's, and what each event makes of them.
-pub mod own_clock;
-pub mod receive;
 pub mod record;
-pub mod send;
 
 use choice::Announcement;
 use delay::DelaySetting;
 use frame::Fields;
+use frame::Mac;
 use samples::Pair;
 use samples::Samples;
 use times::LocalTime;
@@ -36,6 +34,12 @@ pub struct OwnClock {
 // A port's part of the setup.
 pub struct Setting {
     pub delay: DelaySetting,
+}
+
+// What a station puts into every frame that it sends: its address, and the backTime by which grand time is read.
+pub struct Sender {
+    pub mac: Mac,
+    pub back: u64,
 }
 
 // What a frame or a send is answered with, 0 for done, and the port's record after it.

@@ -3,7 +3,7 @@ use mathlib.Core.Path.{_≡_, refl}
 use mathlib.Core.List.{map}
 use Rattle.times.specs.Times.{sinceOf, momentOf}
 use Rattle.samples.specs.Rate.{rateOf, scaledOf}
-use Rattle.line.specs.Line.{readingAt}
+use Rattle.timeline.specs.Line.{readingAt}
 use Rattle.recorder.specs.Stamp.{distanceOf}
 use Rattle.recorder.specs.Edges.{Edge, edges}
 

@@ -14,10 +14,10 @@ use Rattle.samples.specs.Keep.{spreadOf, rateBetween, endsOf, LawfulEnds}
 use Rattle.samples.specs.declared.Sample.{Sample}
 use Rattle.samples.specs.declared.Ends.{Ends}
 use Rattle.samples.specs.declared.Ends.the-variants.{Both}
-use Rattle.line.specs.Line.{readingAt, bound, lineAt, NearLine}
+use Rattle.timeline.specs.Line.{readingAt, bound, lineAt, NearLine}
 use Rattle.choice.specs.declared.Candidate.{Candidate}
 use Rattle.choice.specs.declared.Candidate.the-variants.{Nothing, Clock}
-use Rattle.table.specs.Table.{samplesOfChoice}
+use Rattle.bridge.specs.Table.{samplesOfChoice}
 use Rattle.bridge.specs.State.{Lawful}
 use Rattle.bridge.specs.Chosen.{chosenOf}
 use Rattle.bridge.specs.Send.{chosenSamples}
@@ -28,8 +28,8 @@ use Rattle.recorder.specs.declared.Stamped.the-variants.{At}
 use Rattle.numbers.proofs.Ring.{natAbs-neg, natAbs-*, same, split, sub-+, sub-*, sub-neg-is}
 use Rattle.times.proofs.TimeLaws.{moment-at}
 use Rattle.samples.proofs.KeepLaws.{ends-lawful}
-use Rattle.line.proofs.Bound.{reading-near, line-older}
-use Rattle.table.proofs.TableLaws.{chosen-lawful}
+use Rattle.timeline.proofs.Bound.{reading-near, line-older}
+use Rattle.bridge.proofs.TableLaws.{chosen-lawful}
 use Rattle.recorder.proofs.DistanceLaws.{there-and-back, onward, backward}
 use Rattle.recorder.proofs.StampLaws.{through-as, stamp-by, read-off, read-at}
 

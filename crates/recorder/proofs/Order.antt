@@ -15,7 +15,7 @@ use Rattle.samples.specs.Rate.{parts, steepest, scaledOf, advanceOf}
 use Rattle.samples.specs.Keep.{rateBetween, endsOf, LawfulEnds}
 use Rattle.samples.specs.declared.Sample.{Sample}
 use Rattle.samples.specs.declared.Ends.the-variants.{Both}
-use Rattle.line.specs.Line.{longestReach, readingAt}
+use Rattle.timeline.specs.Line.{longestReach, readingAt}
 use Rattle.bridge.specs.State.{Lawful}
 use Rattle.bridge.specs.Send.{chosenSamples}
 use Rattle.bridge.specs.declared.Bridge.{Bridge}

@@ -16,7 +16,7 @@ use Rattle.samples.specs.Keep.{rateBetween, endsOf}
 use Rattle.samples.specs.declared.Sample.{Sample}
 use Rattle.samples.specs.declared.Ends.{Ends}
 use Rattle.samples.specs.declared.Ends.the-variants.{Few, Both}
-use Rattle.line.specs.Line.{longestReach, InReach, readingAt}
+use Rattle.timeline.specs.Line.{longestReach, InReach, readingAt}
 use Rattle.choice.specs.declared.Precedence.{Precedence}
 use Rattle.choice.specs.declared.Candidate.{Candidate}
 use Rattle.choice.specs.declared.Candidate.the-variants.{Nothing, Clock}

@@ -10,7 +10,7 @@ use Rattle.samples.specs.Keep.{endsOf}
 use Rattle.samples.specs.declared.Sample.{Sample}
 use Rattle.samples.specs.declared.Samples.{Samples}
 use Rattle.samples.specs.declared.Ends.the-variants.{Few, Both}
-use Rattle.line.specs.Line.{longestReach, readingAt, NearLine}
+use Rattle.timeline.specs.Line.{longestReach, readingAt, NearLine}
 use Rattle.choice.specs.declared.Candidate.the-variants.{Nothing}
 use Rattle.bridge.specs.Chosen.{chosenOf}
 use Rattle.bridge.specs.Send.{chosenSamples}

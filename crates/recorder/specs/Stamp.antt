@@ -14,7 +14,7 @@ use Rattle.samples.specs.Keep.{endsOf}
 use Rattle.samples.specs.declared.Samples.{Samples}
 use Rattle.samples.specs.declared.Ends.{Ends}
 use Rattle.samples.specs.declared.Ends.the-variants.{Few, Both}
-use Rattle.line.specs.Line.{longestReach, readingAt}
+use Rattle.timeline.specs.Line.{longestReach, readingAt}
 use Rattle.choice.specs.declared.Candidate.{Candidate}
 use Rattle.choice.specs.declared.Candidate.the-variants.{Nothing, Clock}
 use Rattle.bridge.specs.Chosen.{chosenOf}

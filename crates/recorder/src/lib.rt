@@ -7,11 +7,10 @@ ghost use Rattle.recorder.specs.Promises.{StampPromise};
 use bridge::Bridge;
 use choice::Candidate;
 use numbers::whole;
+use port::record;
 use samples::Ends;
 use samples::Samples;
 use samples::kept;
-use table::arguments;
-use table::records;
 use times::GrandTime;
 use times::LocalTime;
 use times::Moment;
@@ -58,7 +57,7 @@ fn through(samples: Samples, latch: LocalTime) -> Stamped
             if LONGEST_REACH < whole::abs(away) {
                 return Stamped::Refused(TOO_FAR);
             }
-            match line::reading(oldest, newest, away, NOTHING_MORE) {
+            match timeline::reading(oldest, newest, away, NOTHING_MORE) {
                 Moment::At(time) => Stamped::At(time),
                 Moment::Beyond => Stamped::Refused(refusals::BEYOND_RANGE),
             }
@@ -71,10 +70,10 @@ pub fn stamp(b: Bridge, latch: u64) -> Stamped
     requires { ⌜ Lawful b ⌝ }
     ensures { λ r. ⌜ StampPromise b latch r ⌝ }
 {
-    if arguments::off_circle(latch) {
+    if bridge_arguments::off_circle(latch) {
         return Stamped::Refused(refusals::OUT_OF_RANGE);
     }
-    match bridge::chosen(b) {
+    match bridge_chosen::chosen(b) {
         Candidate::Nothing => Stamped::Refused(refusals::NO_CLOCK),
         Candidate::Clock(_, _, number) => match number {
             0 => {
@@ -82,14 +81,14 @@ pub fn stamp(b: Bridge, latch: u64) -> Stamped
                 let samples = clock.samples;
                 through(samples, LocalTime(latch))
             }
-            1 => through(records::samples(b.ports[0]), LocalTime(latch)),
-            2 => through(records::samples(b.ports[1]), LocalTime(latch)),
-            3 => through(records::samples(b.ports[2]), LocalTime(latch)),
-            4 => through(records::samples(b.ports[3]), LocalTime(latch)),
-            5 => through(records::samples(b.ports[4]), LocalTime(latch)),
-            6 => through(records::samples(b.ports[5]), LocalTime(latch)),
-            7 => through(records::samples(b.ports[6]), LocalTime(latch)),
-            _ => through(records::samples(b.ports[7]), LocalTime(latch)),
+            1 => through(record::samples(b.ports[0]), LocalTime(latch)),
+            2 => through(record::samples(b.ports[1]), LocalTime(latch)),
+            3 => through(record::samples(b.ports[2]), LocalTime(latch)),
+            4 => through(record::samples(b.ports[3]), LocalTime(latch)),
+            5 => through(record::samples(b.ports[4]), LocalTime(latch)),
+            6 => through(record::samples(b.ports[5]), LocalTime(latch)),
+            7 => through(record::samples(b.ports[6]), LocalTime(latch)),
+            _ => through(record::samples(b.ports[7]), LocalTime(latch)),
         },
     }
 }

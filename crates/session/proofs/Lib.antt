@@ -1,3 +1,1 @@
-pub mod SessionLaws
-pub mod LineLaws
 pub mod TwoReads

@@ -1,6 +1,7 @@
 //! Counts how often each call gave each answer, how the frames that were taken came by their held hops, which way rates were rounded, and where scales left their range.
 
 use super::latches;
+use super::limits;
 use super::pen::answer_of;
 use crate::answer::{
     Answer, BAD_LINE, BEYOND_RANGE, DONE, NO_CLOCK, OUT_OF_RANGE, OUT_OF_REACH, TOO_FEW_SAMPLES,
@@ -76,7 +77,7 @@ impl fmt::Display for StampCensus {
 
 /// Gives the side on which a latch lies of the newer sample of the clock that a bridge follows.
 fn side(latch: u64, bridge: &Listed) -> usize {
-    match latches::followed(bridge).both() {
+    match limits::followed(bridge).both() {
         Some((_, newer)) if is_local(latch) => match distance(latch, newer.local).cmp(&0) {
             Ordering::Less => BEFORE,
             Ordering::Equal => AT,

@@ -1,6 +1,7 @@
 //! Calls that fit any moment: questions, calls at a limit, and calls by chance.
 
 use super::latches;
+use super::limits::{any_local, any_part, first_where, followed};
 use super::pen::Pen;
 use super::plans;
 use super::random::Random;
@@ -10,30 +11,6 @@ use crate::frame::{self, Fields, FRAME_LEN};
 use crate::replay::BYTES_MOST;
 use crate::rules::{self, REACH_END};
 use crate::times::{moved, GRAND_END, LOCAL_END, PART_END};
-
-/// Gives a local time, often one at an end of the circle or out of range.
-pub fn any_local(random: &mut Random) -> u64 {
-    match random.below(12) {
-        0 => 0,
-        1 => LOCAL_END - 1,
-        2 => LOCAL_END,
-        3 => random.pick(&[LOCAL_END + 1, u64::MAX]),
-        4 => random.sized(64),
-        5 => random.sized(48),
-        _ => random.below(LOCAL_END),
-    }
-}
-
-/// Gives seconds or a fraction, often at an end or out of range.
-fn any_part(random: &mut Random) -> u64 {
-    match random.below(10) {
-        0 => 0,
-        1 => PART_END - 1,
-        2 => PART_END,
-        3 => random.sized(64),
-        _ => random.below(PART_END),
-    }
-}
 
 /// Gives the length of an output, mostly that of a frame.
 pub fn output_length(random: &mut Random) -> u64 {
@@ -82,7 +59,7 @@ pub fn edge_send(pen: &mut Pen) {
         return;
     };
     let back = pen.bridge().settings.back;
-    let samples = latches::followed(pen.bridge());
+    let samples = followed(pen.bridge());
     let Some(newest) = samples.newest else {
         let departure = any_local(&mut pen.random);
         pen.send(port, departure, FRAME_LEN as u64);
@@ -98,7 +75,7 @@ pub fn edge_send(pen: &mut Pen) {
                 departure,
             ))
         };
-        latches::first_where(0, i128::from(REACH_END) - 1, unfit)
+        first_where(0, i128::from(REACH_END) - 1, unfit)
     });
     let reach = match (top, pen.random.below(10)) {
         (Some(top), 0..=6) => top - pen.random.pick(&[0, 1, 1, 2]),
@@ -116,7 +93,7 @@ pub fn edge_send(pen: &mut Pen) {
 
 /// Has a latch stamped that is aimed at the samples of the chosen clock.
 pub fn edge_stamp(pen: &mut Pen) {
-    let samples = latches::followed(pen.bridge());
+    let samples = followed(pen.bridge());
     let latch = latches::aimed(&mut pen.random, &samples);
     pen.stamp(latch);
 }

@@ -1,8 +1,7 @@
 //! Latches at the limits of what can be stamped.
 
-use super::extras;
+use super::limits::{any_local, first_where};
 use super::random::Random;
-use crate::bridge::{Listed, OWN};
 use crate::hex;
 use crate::rules::{self, STAMPED_MOST};
 use crate::samples::Samples;
@@ -18,12 +17,6 @@ pub fn called(line: &[u8]) -> Option<u64> {
     hex::number(line.strip_prefix(b"E ")?)
 }
 
-/// Gives the samples of the clock that a bridge follows, none where it follows none.
-pub fn followed(bridge: &Listed) -> Samples {
-    let port = bridge.best().map_or(OWN, |chosen| chosen.port);
-    bridge.samples(port).copied().unwrap_or_default()
-}
-
 /// Gives a latch near or far from the newest of some samples, often at a limit, and now and then out of range.
 pub fn aimed(random: &mut Random, samples: &Samples) -> u64 {
     match samples.newest {
@@ -31,7 +24,7 @@ pub fn aimed(random: &mut Random, samples: &Samples) -> u64 {
             let distance = aimed_distance(random, samples);
             moved(newest.local, distance)
         }
-        _ => extras::any_local(random),
+        _ => any_local(random),
     }
 }
 
@@ -80,21 +73,4 @@ fn first_stamp_from(samples: &Samples, least: i128) -> Option<i128> {
     let (older, newer) = samples.both()?;
     let from_there = |distance| rules::stamp(older.point(), newer.point(), distance) >= least;
     first_where(-STAMPED_MOST, STAMPED_MOST, from_there).filter(|first| *first > -STAMPED_MOST)
-}
-
-/// Finds the first of the numbers from low to high at which something holds that goes on to hold, where it is there.
-pub fn first_where(low: i128, high: i128, holds: impl Fn(i128) -> bool) -> Option<i128> {
-    if !holds(high) {
-        return None;
-    }
-    let (mut low, mut high) = (low, high);
-    while low < high {
-        let middle = (low + high).div_euclid(2);
-        if holds(middle) {
-            high = middle;
-        } else {
-            low = middle + 1;
-        }
-    }
-    Some(low)
 }

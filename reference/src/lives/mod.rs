@@ -4,6 +4,7 @@ mod aimed;
 pub mod census;
 mod extras;
 pub(crate) mod latches;
+pub(crate) mod limits;
 pub mod listed;
 mod network;
 mod pen;

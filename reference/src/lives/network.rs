@@ -1,6 +1,7 @@
 //! Lives among neighbours whose clocks drift and who answer what the bridge really sent.
 
 use super::extras;
+use super::limits;
 use super::pen::Pen;
 use super::plans;
 use super::random::Random;
@@ -299,7 +300,7 @@ impl Network {
                 pen.receive(wrong, &whole, arrival);
             }
             38..=39 => {
-                let wrong = extras::any_local(&mut pen.random);
+                let wrong = limits::any_local(&mut pen.random);
                 pen.receive(port, &whole, wrong);
             }
             _ => {

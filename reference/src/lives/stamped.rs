@@ -2,6 +2,7 @@
 
 use super::census::StampCensus;
 use super::latches;
+use super::limits;
 use super::listed::{put_line, Lister};
 use crate::bridge::Listed;
 use crate::hex::{self, LOCAL_DIGITS};
@@ -55,7 +56,7 @@ impl Stamper {
 
     /// Appends a latch that is aimed at the samples of the clock that the program then follows.
     fn put_aimed(&mut self, out: &mut Vec<u8>) {
-        let samples = latches::followed(&self.program.listing.bridge);
+        let samples = limits::followed(&self.program.listing.bridge);
         let latch = latches::aimed(&mut self.latches.random, &samples);
         self.put_latch(latch, out);
     }

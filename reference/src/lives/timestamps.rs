@@ -1,6 +1,6 @@
 //! Grand times, timestamps and PTP seconds at the limits of what can be exported, imported and told on a scale.
 
-use super::latches;
+use super::limits::followed;
 use super::pen::Pen;
 use super::random::Random;
 use crate::ptp::{self, Scale, NANOSECONDS_END, SECONDS_END};
@@ -73,7 +73,7 @@ fn import(pen: &mut Pen) {
 
 /// Exports a grand time, often that of the chosen clock's newest sample, imports what came out, and exports that.
 fn there_and_back(pen: &mut Pen) {
-    let newest = latches::followed(pen.bridge()).newest;
+    let newest = followed(pen.bridge()).newest;
     let (seconds, fraction) = match newest {
         Some(sample) if pen.random.often(500) => parts(sample.grand),
         _ => {

@@ -9,7 +9,8 @@ use Rattle.bridge.specs.Receive.{receiveOf}
 use Rattle.capture.specs.Capture.{listedText, capturedFrom}
 use Rattle.bridge.proofs.PromiseLaws.{done-is}
 use Rattle.hex.proofs.DigitLaws.{exactly-length}
-use Rattle.answer.proofs.AnswerLaws.{as-says, as-prints}
+use Rattle.columns.proofs.ColumnLaws.{as-prints}
+use Rattle.answer.proofs.AnswerLaws.{as-says}
 use Rattle.capture.proofs.CaptureLaws.{listed-bad, listed-done}
 use Rattle.capture.proofs.answer_line.Statement.{statement}
 use Rattle.capture.proofs.answer_line.Tie as tie

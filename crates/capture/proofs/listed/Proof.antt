@@ -1,6 +1,6 @@
 -- The three bytes by what is shown of the choice.
 use Rattle.columns.specs.Columns.{line3}
-use Rattle.answer.proofs.AnswerLaws.{as-prints}
+use Rattle.columns.proofs.ColumnLaws.{as-prints}
 use borrow.Author.Needs.{needs}
 use Rattle.capture.proofs.listed.Statement.{statement}
 use Rattle.capture.proofs.listed.Tie as tie

@@ -1,10 +1,10 @@
--- What is left to put and what stands are the digits of the whole number, byte by byte from the end.
+-- What is left to put and what stands are the numberBytes of the whole number, byte by byte from the end.
 use mathlib.Core.Path.{_≡_, refl, sym, ap, _∙_}
 use mathlib.Core.List.{_++_}
 use Prim.Native.Nat.{ℕ, _+_, _*_, _≤_}
 use native.Mathlib.Omega.{arith}
 use lib.ListN.{length, take, drop, take-append-drop}
-use Rattle.numbers.specs.Digits.{digits}
+use Rattle.numbers.specs.Bytes.{numberBytes}
 use Rattle.hex.specs.Print.{textOf}
 use Rattle.columns.proofs.ColumnLaws.{number-step}
 use borrow.Author.Needs.{needs}
@@ -15,7 +15,7 @@ abbrev Inv-loop : tie.InvT-loop
 Inv-loop out₀ at width value rest₀ i₀ out rest i =
     (i ≤ width)
     × (length out ≡ length out₀)
-    × (take at out ++ (textOf (digits i rest) ++ drop (at + i * 2) out) ≡ take at out₀ ++ (textOf (digits width value) ++ drop (at + width * 2) out₀))
+    × (take at out ++ (textOf (numberBytes i rest) ++ drop (at + i * 2) out) ≡ take at out₀ ++ (textOf (numberBytes width value) ++ drop (at + width * 2) out₀))
 
 abbrev μ-loop : tie.MeasureT-loop
 μ-loop out₀ at width value rest₀ i₀ out rest i = i

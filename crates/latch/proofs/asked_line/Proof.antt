@@ -6,7 +6,7 @@ use Rattle.recorder.specs.Stamp.{stampOf}
 use Rattle.latch.specs.Latch.{latchDigits, latchText}
 use Rattle.hex.proofs.DigitLaws.{exactly-length}
 use Rattle.answer.specs.Answer.{Answer}
-use Rattle.answer.proofs.AnswerLaws.{as-prints}
+use Rattle.columns.proofs.ColumnLaws.{as-prints}
 use Rattle.latch.proofs.LatchLaws.{latch-stamped}
 use Rattle.latch.proofs.asked_line.Statement.{statement}
 use Rattle.latch.proofs.asked_line.Tie as tie

@@ -1,6 +1,6 @@
 -- By whether there is a stamp.
 use mathlib.Core.Path.{sym, ap}
-use Rattle.answer.proofs.AnswerLaws.{as-prints}
+use Rattle.columns.proofs.ColumnLaws.{as-prints}
 use Rattle.latch.specs.Latch.{latchText}
 use borrow.Author.Needs.{needs}
 use Rattle.latch.proofs.stamped.Statement.{statement}

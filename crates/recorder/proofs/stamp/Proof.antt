@@ -10,12 +10,12 @@ use Rattle.samples.specs.declared.Samples.{Samples}
 use Rattle.choice.specs.declared.Candidate.{Candidate}
 use Rattle.choice.specs.declared.Candidate.the-variants.{Clock}
 use Rattle.choice.specs.Choose.{numberOf}
-use Rattle.table.specs.Table.{mostPorts, samplesAt, samplesOfChoice}
+use Rattle.bridge.specs.Table.{mostPorts, samplesAt, samplesOfChoice}
 use Rattle.bridge.specs.Chosen.{chosenOf}
 use Rattle.recorder.specs.Stamp.{latched, stampThrough}
 use Rattle.recorder.specs.Promises.{StampPromise}
 use Rattle.recorder.specs.declared.Stamped.{Stamped}
-use Rattle.table.proofs.TableLaws.{samples-own}
+use Rattle.bridge.proofs.TableLaws.{samples-own}
 use Rattle.bridge.proofs.StateLaws.{NoneBelow, chosen-number, last-port, record-lawful, record-samples}
 use Rattle.recorder.proofs.StampLaws.{stamp-off, stamp-by, stamp-out}
 use Rattle.recorder.proofs.stamp.Statement.{statement}

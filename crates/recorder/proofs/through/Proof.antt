@@ -10,7 +10,7 @@ use Rattle.times.specs.Times.{momentOf}
 use Rattle.samples.specs.Keep.{endsOf, LawfulEnds}
 use Rattle.samples.specs.declared.Sample.{Sample}
 use Rattle.samples.specs.declared.Ends.the-variants.{Both}
-use Rattle.line.specs.Line.{longestReach, readingAt}
+use Rattle.timeline.specs.Line.{longestReach, readingAt}
 use Rattle.recorder.specs.Stamp.{distanceOf}
 use Rattle.numbers.proofs.Machine.{got}
 use Rattle.samples.proofs.KeepLaws.{ends-lawful}

@@ -4,7 +4,7 @@ use mathlib.Core.List.{List, _++_}
 use Prim.Native.Nat.{ℕ, _+_, _-_, _≤_}
 use native.Mathlib.Omega.{arith}
 use lib.ListN.{length, take, drop, getD, take-append-drop}
-use Rattle.numbers.specs.Digits.{spliced}
+use Rattle.numbers.specs.Bytes.{spliced}
 use Rattle.numbers.specs.Table.{total, joined}
 use Rattle.numbers.proofs.Table.{row-room, row-end, joined-step}
 use Rattle.frame.specs.Frame.{frameLength, widths}

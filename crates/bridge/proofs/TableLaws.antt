@@ -1,0 +1,127 @@
+-- Laws of the table: the choice as a walk over the ports, a port whose link changes, whose samples a number means, and the settings of the first ports.
+use mathlib.Core.Path.{_≡_, refl, sym, ap, _∙_}
+use mathlib.Core.Bool.{Bool, true, false, _&&_}
+use mathlib.Core.List.{List, [], _∷_}
+use Prim.Native.Nat.{ℕ, zero, suc, _+_, _-_, _/_, _^_, _<_, _≤_}
+use native.Mathlib.Nat.{zero-add, lt-of-lt-of-le}
+use native.Mathlib.Numerals.{add-one, sub-one}
+use native.Mathlib.Omega.{arith}
+use lib.Dec.{eqb, ltb}
+use lib.ListN.{length, getD, take, drop}
+use lib.Pow.{pow-mono, shr-lt}
+use lib.Seq.{drop-cons, drop-length, getD-take, length-take-le}
+use Rattle.samples.specs.Keep.{LawfulSamples}
+use Rattle.choice.specs.Choose.{rankOf, candidateOf, betterOf, numberOf}
+use Rattle.choice.specs.declared.Announcement.{Announcement}
+use Rattle.choice.specs.declared.Announcement.the-variants.{Silent, Announced}
+use Rattle.choice.specs.declared.Candidate.{Candidate}
+use Rattle.choice.specs.declared.Candidate.the-variants.{Nothing, Clock}
+use Rattle.port.specs.Record.{emptyPort}
+use Rattle.port.specs.Lawful.{LawfulPort, LawfulClock}
+use Rattle.port.specs.declared.Port.{Port}
+use Rattle.port.specs.declared.OwnClock.{OwnClock}
+use Rattle.port.specs.declared.Setting.{Setting}
+use Rattle.bridge.specs.Arguments.{bit}
+use Rattle.bridge.specs.Table.{portAt, losesLink, relinkedPort, samplesAt, samplesOfChoice, candidatesFrom, bestOf}
+use Rattle.bridge.specs.Fits.{delayFits, delaysFit}
+use Rattle.numbers.proofs.Branches.{if-true, if-false, if-when}
+
+-- ---- the choice, port by port
+
+pub best-turn : (ports : List Port) (i : ℕ) (d : Port) (choice next : Candidate) → i < length ports → next ≡ betterOf choice (candidateOf (i + 1) (getD ports i d .announcement))
+    → bestOf next (candidatesFrom (i + 1 + 1) (drop (i + 1) ports)) ≡ bestOf choice (candidatesFrom (i + 1) (drop i ports))
+unfolding bestOf candidatesFrom
+best-turn ports i d choice next h e = rw (e, add-one (i + 1), add-one i, drop-cons ports i d)
+
+pub best-end : (ports : List Port) (i : ℕ) (choice : Candidate) → length ports ≡ i → bestOf choice (candidatesFrom (i + 1) (drop i ports)) ≡ choice
+unfolding bestOf candidatesFrom
+best-end ports i choice e = rw (← e, drop-length)
+
+-- the number of the choice is that of a candidate
+pub best-number : (k : ℕ) (ports : List Port) (choice : Candidate) → numberOf choice ≤ k + length ports → numberOf (bestOf choice (candidatesFrom (suc k) ports)) ≤ k + length ports
+unfolding bestOf candidatesFrom candidateOf betterOf
+best-number k [] choice h = h
+best-number k (p ∷ ports) choice h =
+    let l : numberOf (betterOf choice (candidateOf (suc k) (p .announcement))) ≤ suc k + length ports =
+    better-number choice (candidateOf (suc k) (p .announcement)) (omega arith) (candidate-number (p .announcement)) in
+    omega (arith, best-number (suc k) ports (betterOf choice (candidateOf (suc k) (p .announcement))) l)
+  where
+    candidate-number : (h : Announcement) → numberOf (candidateOf (suc k) h) ≤ suc k + length ports
+    candidate-number Silent = omega arith
+    candidate-number (Announced q h when) = omega arith
+
+    better-number : (a b : Candidate) {m : ℕ} → numberOf a ≤ m → numberOf b ≤ m → numberOf (betterOf a b) ≤ m
+    better-number Nothing b x y = y
+    better-number (Clock p h i) Nothing x y = x
+    better-number (Clock p h i) (Clock q k j) {m} x y = if-when (λ (c : Candidate). numberOf c ≤ m) (ltb (rankOf q k j) (rankOf p h i)) (λ _. y) (λ _. x)
+
+-- ---- a port whose link changes, or not
+
+-- links below 2^n have no bit from n on
+pub link-beyond : (n links i : ℕ) → links < 2 ^ n → n ≤ i → bit links i ≡ 0
+link-beyond n links i l h =
+    let below : links < 2 ^ (0 + i) = rw (zero-add i) (lt-of-lt-of-le l (pow-mono h)) in
+    let none : links / 2 ^ i < 1 = shr-lt 0 i below in
+    omega arith
+
+module _ (links mask i : ℕ) (port : Port) where
+  pub relinked-lost : losesLink links mask i ≡ true → emptyPort ≡ relinkedPort links mask i port
+  unfolding relinkedPort
+  relinked-lost e = if-true _ emptyPort port e
+
+  pub relinked-kept : losesLink links mask i ≡ false → port ≡ relinkedPort links mask i port
+  unfolding relinkedPort
+  relinked-kept e = if-false _ emptyPort port e
+
+  -- a port beyond the links has no link to lose
+  pub relinked-beyond : (n : ℕ) → links < 2 ^ n → n ≤ i → port ≡ relinkedPort links mask i port
+  relinked-beyond n l h = relinked-kept (ap (λ (b : ℕ). eqb b 1 && eqb (bit mask i) 0) (link-beyond n links i l h))
+
+-- ---- whose samples
+
+pub samples-own : (number : ℕ) (clock : OwnClock) (ports : List Port) → number ≡ 0 → clock .samples ≡ samplesAt number clock ports
+unfolding samplesAt
+samples-own number clock ports e = ap (λ (n : ℕ). samplesAt n clock ports) (sym e)
+
+pub samples-port : (number : ℕ) (clock : OwnClock) (ports : List Port) → (number ≡ 0 → ⊥) → portAt ports (number - 1) .samples ≡ samplesAt number clock ports
+unfolding samplesAt
+samples-port zero clock ports n = absurd (n refl)
+samples-port (suc i) clock ports n = ap (λ (k : ℕ). portAt ports k .samples) (sub-one (suc i))
+
+-- every clock's samples are lawful
+pub samples-lawful : (number : ℕ) (clock : OwnClock) (ports : List Port) → LawfulClock clock → ((i : ℕ) → LawfulPort (portAt ports i)) → LawfulSamples (samplesAt number clock ports)
+unfolding samplesAt
+samples-lawful zero clock ports c p = c .samples
+samples-lawful (suc i) clock ports c p = p i .samples
+
+pub chosen-lawful : (choice : Candidate) (clock : OwnClock) (ports : List Port) → LawfulClock clock → ((i : ℕ) → LawfulPort (portAt ports i)) → LawfulSamples (samplesOfChoice choice clock ports)
+unfolding samplesOfChoice
+chosen-lawful Nothing clock ports c p = tt
+chosen-lawful (Clock q h n) clock ports c p = samples-lawful n clock ports c p
+
+-- ---- the settings of the first n ports
+
+module _ (settings : List Setting) (n : ℕ) (room : n ≤ length settings) where
+  abbrev first : List Setting
+  first = take n settings
+
+  next-setting : (i : ℕ) (d : Setting) → i < n → drop i first ≡ getD settings i d ∷ drop (i + 1) first
+  next-setting i d h =
+      let l : i < length first = rw (length-take-le n settings room) h in
+      rw (add-one, drop-cons first i d, getD-take) refl
+
+  pub delays-turn : (i : ℕ) (d : Setting) → i < n → delayFits (getD settings i d .delay) ≡ true → delaysFit (drop (i + 1) first) ≡ delaysFit (drop i first)
+  unfolding delaysFit
+  delays-turn i d h e =
+      ap (λ (b : Bool). b && delaysFit (drop (i + 1) first)) (sym e) ∙ ap delaysFit (sym (next-setting i d h))
+
+  pub delays-stop : (i : ℕ) (d : Setting) → i < n → delayFits (getD settings i d .delay) ≡ false → false ≡ delaysFit (drop i first)
+  unfolding delaysFit
+  delays-stop i d h e =
+      ap (λ (b : Bool). b && delaysFit (drop (i + 1) first)) (sym e) ∙ ap delaysFit (sym (next-setting i d h))
+
+  pub delays-end : (i : ℕ) → i ≡ n → true ≡ delaysFit (drop i first)
+  unfolding delaysFit
+  delays-end i e =
+      let l : length first ≡ i = length-take-le n settings room ∙ sym e in
+      rw (← l, drop-length)

@@ -1,0 +1,63 @@
+-- What Setup takes, and the plainest that it can be given.
+use mathlib.Core.Bool.{Bool, true, false, _&&_}
+use mathlib.Core.List.{List, [], _∷_}
+use Prim.Native.Nat.{ℕ, _^_}
+use lib.Dec.{ltb, leb}
+use lib.ListN.{take, replicate}
+use Rattle.delay.specs.Delay.{longestDelay}
+use Rattle.timeline.specs.Sent.{longestElapsed}
+use Rattle.delay.specs.declared.DelaySetting.{DelaySetting}
+use Rattle.delay.specs.declared.DelaySetting.the-variants.{Measured, Fixed}
+use Rattle.choice.specs.declared.Precedence.{Precedence}
+use Rattle.frame.specs.declared.Mac.{Mac}
+use Rattle.port.specs.declared.Setting.{Setting}
+use Rattle.bridge.specs.Table.{mostPorts}
+use Rattle.bridge.specs.declared.Setup.{Setup}
+
+-- a timeout from the least to the greatest; a fixed delay no longer than the longest
+abbrev pub leastTimeout : ℕ
+leastTimeout = 2 ^ 36
+
+abbrev pub greatestTimeout : ℕ
+greatestTimeout = 2 ^ 46
+
+unfoldable pub delayFits : DelaySetting → Bool
+delayFits Measured = true
+delayFits (Fixed delay) = leb delay longestDelay
+
+unfoldable pub delaysFit : List Setting → Bool
+delaysFit [] = true
+delaysFit (s ∷ ss) = delayFits (s .delay) && delaysFit ss
+
+-- entries beyond the n ports are not looked at
+unfoldable pub setupFits : Setup → Bool
+setupFits s =
+    leb 1 (s .n)
+    && (leb (s .n) mostPorts
+    && (leb leastTimeout (s .timeout) && (leb (s .timeout) greatestTimeout && (ltb (s .sender .back) longestElapsed && delaysFit (take (s .n) (s .settings))))))
+
+-- a port that measures its delay
+abbrev pub measuredSetting : Setting
+measuredSetting = record { delay = Measured }
+
+-- an address and a precedence of zeros
+abbrev pub noMac : Mac
+noMac = record { 0 = 0; 1 = 0; 2 = 0; 3 = 0; 4 = 0; 5 = 0 }
+
+abbrev pub noPrecedence : Precedence
+noPrecedence = record { priority1 = 0; source = 0; variance = 0; priority2 = 0; clock = 0 }
+
+-- a station that is not capable, whose ports all measure their delay
+abbrev pub plainSetup : ℕ → ℕ → ℕ → Setup
+plainSetup n timeout back = record {
+  n = n;
+  sender = record { mac = noMac; back = back };
+  own = noPrecedence;
+  capable = false;
+  timeout = timeout;
+  settings = replicate mostPorts measuredSetting;
+}
+
+-- the setup of no ports, every number zero
+abbrev pub noSetup : Setup
+noSetup = plainSetup 0 0 0

@@ -1,0 +1,46 @@
+// Send: a port's next frame.
+ghost use Rattle.bridge.specs.State.{Lawful};
+ghost use Rattle.bridge.specs.Promises.{SendPromise};
+use bridge::Bridge;
+use bridge::Done;
+use port::record;
+use times::LocalTime;
+
+// Send: fills the output with the port's next frame, whose preceding one departed at t.
+pub fn send(b: Bridge, port: u8, t: u64, out: &mut [u8]) -> Done
+    requires { ⌜ Lawful b ⌝ }
+    ensures { λ r. ⌜ SendPromise b port t (now (out .entry)) r (now (out .exit)) ⌝ }
+{
+    let mut next = b;
+    let mut answer = bridge_arguments::send_refusal(b.setup.n, b.links, port, t, out.len());
+    if answer == refusals::DONE {
+        let own = next.setup.own;
+        let mut best = choice_ranks::own(next.setup.capable, own);
+        let mut k: usize = 0;
+        while k < bridge::PORTS {
+            let port_record = next.ports[k];
+            best = record::lesser(best, port_record, (k + 1) as u8);
+            k += 1;
+        }
+        let choice = choice_ranks::candidate(best);
+        let number = choice_candidates::number(choice);
+        let clock = next.clock;
+        let mut samples = clock.samples;
+        if 0 < number {
+            let place = (number - 1) as usize;
+            let winner = next.ports[place];
+            samples = winner.samples;
+        }
+        let i = (port - 1) as usize;
+        let held = next.ports[i];
+        let sender = next.setup.sender;
+        let sent = port_send::send(held, choice, samples, sender, LocalTime(t), out);
+        let after = sent.port;
+        next.ports[i] = after;
+        answer = sent.answer;
+    }
+    Done {
+        next: next,
+        answer: answer,
+    }
+}

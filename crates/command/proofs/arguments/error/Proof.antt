@@ -1,7 +1,0 @@
--- Four bytes.
-use borrow.Author.Needs.{needs}
-use Rattle.command.proofs.arguments.error.Statement.{statement}
-use Rattle.command.proofs.arguments.error.Tie as tie
-
-pub error-spec : {M : Type 1} → statement M
-error-spec = tie.close (tie.spec (λ c. search needs) (λ c κs. search needs) (λ c. search needs) (λ c. rw (c .number-at .ensures .0)))

@@ -1,9 +1,0 @@
--- No letter, or by the length.
-use borrow.Author.Tests.{eq-eqb, ne-eqb}
-use Rattle.command.specs.Answer.{mayBeLine}
-use Rattle.command.proofs.may_be_line.Statement.{statement}
-use Rattle.command.proofs.may_be_line.Tie as tie
-
-pub may-be-line-spec : {M : Type 1} → statement M
-unfolding mayBeLine
-may-be-line-spec = tie.close (tie.spec (λ c. rw (eq-eqb _ _ (c .if1 .taken))) (λ c. rw (ne-eqb _ _ (c .if1 .left))))

@@ -1,3 +1,0 @@
-pub mod Row
-pub mod Argument
-pub mod Answer

@@ -1,3 +1,0 @@
-pub mod Kind
-pub mod Field
-pub mod Form

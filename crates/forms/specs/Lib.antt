@@ -1,0 +1,4 @@
+pub mod Kind
+pub mod Field
+pub mod Form
+pub mod Value

@@ -1,0 +1,65 @@
+-- The tests answer one by one, in the order of the definition.
+use mathlib.Core.Path.{refl}
+use borrow.Author.Tests.{lt-ltb, le-ltb, le-leb, lt-leb}
+use Rattle.frame.specs.Write.{writeRefusal}
+use Rattle.frame.proofs.FrameLaws.{past, stopped}
+use Rattle.frame_write.proofs.write_refusal.Statement.{statement}
+use Rattle.frame_write.proofs.write_refusal.Tie as tie
+
+returns : tie.Need-returns
+unfolding writeRefusal
+returns c = stopped _ 2 _ (le-ltb _ _ (c .if1 .taken))
+
+returns-2 : tie.Need-returns-2
+unfolding writeRefusal
+returns-2 c =
+    past _ 2 (lt-ltb _ _ (c .before .before .if1 .left))
+    (stopped _ 2 _ (le-ltb _ _ (c .if2 .taken)))
+
+returns-3 : tie.Need-returns-3
+unfolding writeRefusal
+returns-3 c =
+    past _ 2 (lt-ltb _ _ (c .before .before .before .before .if1 .left))
+    (past _ 2 (lt-ltb _ _ (c .before .before .if2 .left))
+    (stopped _ 2 _ (le-ltb _ _ (c .if3 .taken))))
+
+returns-4 : tie.Need-returns-4
+unfolding writeRefusal
+returns-4 c =
+    past _ 2 (lt-ltb _ _ (c .before .before .before .before .before .before .if1 .left))
+    (past _ 2 (lt-ltb _ _ (c .before .before .before .before .if2 .left))
+    (past _ 2 (lt-ltb _ _ (c .before .before .if3 .left))
+    (stopped _ 2 _ (le-ltb _ _ (c .if4 .taken)))))
+
+returns-5 : tie.Need-returns-5
+unfolding writeRefusal
+returns-5 c =
+    past _ 2 (lt-ltb _ _ (c .before .before .before .before .before .before .before .before .if1 .left))
+    (past _ 2 (lt-ltb _ _ (c .before .before .before .before .before .before .if2 .left))
+    (past _ 2 (lt-ltb _ _ (c .before .before .before .before .if3 .left))
+    (past _ 2 (lt-ltb _ _ (c .before .before .if4 .left))
+    (stopped _ 2 _ (le-ltb _ _ (c .if5 .taken))))))
+
+returns-6 : tie.Need-returns-6
+unfolding writeRefusal
+returns-6 c =
+    past _ 2 (lt-ltb _ _ (c .before .before .before .before .before .before .before .before .before .if1 .left))
+    (past _ 2 (lt-ltb _ _ (c .before .before .before .before .before .before .before .if2 .left))
+    (past _ 2 (lt-ltb _ _ (c .before .before .before .before .before .if3 .left))
+    (past _ 2 (lt-ltb _ _ (c .before .before .before .if4 .left))
+    (past _ 2 (lt-ltb _ _ (c .before .if5 .left))
+    (stopped _ 4 _ (lt-leb _ _ (c .if6 .taken)))))))
+
+returns-7 : tie.Need-returns-7
+unfolding writeRefusal
+returns-7 c =
+    past _ 2 (lt-ltb _ _ (c .before .before .before .before .before .before .before .before .before .if1 .left))
+    (past _ 2 (lt-ltb _ _ (c .before .before .before .before .before .before .before .if2 .left))
+    (past _ 2 (lt-ltb _ _ (c .before .before .before .before .before .if3 .left))
+    (past _ 2 (lt-ltb _ _ (c .before .before .before .if4 .left))
+    (past _ 2 (lt-ltb _ _ (c .before .if5 .left))
+    (past _ 4 (le-leb _ _ (c .if6 .left)) refl)))))
+
+pub write-refusal-spec : {M : Type 1} → statement M
+write-refusal-spec =
+    tie.close (tie.spec returns returns-2 returns-3 returns-4 returns-5 returns-6 returns-7)

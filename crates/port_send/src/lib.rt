@@ -1,0 +1,127 @@
+// The frame that a port sends for the chosen clock.
+ghost use mathlib.Core.Path.{_≡_};
+ghost use Prim.Native.Nat.{_<_, _≤_};
+ghost use lib.ListN.{length};
+ghost use Rattle.samples.specs.Keep.{LawfulSamples};
+ghost use Rattle.timeline.specs.Sent.{longestElapsed};
+ghost use Rattle.frame.specs.Frame.{frameLength};
+ghost use Rattle.port.specs.Send.{echoTx, echoRx, frameOf, sendingOf, sendingDone, sendingBytes};
+use choice::Candidate;
+use choice::Precedence;
+use frame::Fields;
+use port::Port;
+use port::PortDone;
+use port::Sender;
+use port::Sending;
+use samples::Pair;
+use samples::Samples;
+use timeline::Sent;
+use timeline::departure;
+use times::ErrorTime;
+use times::GrandTime;
+use times::LocalTime;
+use times::local;
+
+// The neighbour's time in an echo, 0 where there is none.
+fn echo_tx(echo: Pair) -> LocalTime
+    ensures { λ r. ⌜ r ≡ echoTx echo ⌝ }
+{
+    match echo {
+        Pair::Unset => LocalTime(0),
+        Pair::Set(there, _) => there,
+    }
+}
+
+// The arrival here in an echo, 0 where there is none.
+fn echo_rx(echo: Pair) -> LocalTime
+    ensures { λ r. ⌜ r ≡ echoRx echo ⌝ }
+{
+    match echo {
+        Pair::Unset => LocalTime(0),
+        Pair::Set(_, here) => here,
+    }
+}
+
+// The fields of a frame for a clock with this precedence and held hop.
+fn fields(
+    sender: Sender,
+    precedence: Precedence,
+    hop: u8,
+    t: LocalTime,
+    grand: GrandTime,
+    error: ErrorTime,
+    port: Port,
+) -> Fields
+    ensures { λ r. ⌜ r ≡ frameOf sender precedence hop t grand error port ⌝ }
+{
+    let echo = port.echo;
+    let mac = sender.mac;
+    Fields {
+        sa: mac,
+        precedence: precedence,
+        hop: hop,
+        count: port.count,
+        grand: grand,
+        local: t,
+        tx: echo_tx(echo),
+        rx: echo_rx(echo),
+        error: error,
+    }
+}
+
+// The frame that the port sends at t, read off the chosen clock's samples, or 10 to 13.
+fn composed(
+    choice: Candidate,
+    samples: Samples,
+    sender: Sender,
+    t: LocalTime,
+    port: Port,
+) -> Sending
+    requires { ⌜ LawfulSamples samples ⌝ }
+    requires { ⌜ sender .back < longestElapsed ⌝ }
+    ensures { λ r. ⌜ r ≡ sendingOf choice samples sender t port ⌝ }
+{
+    match choice {
+        Candidate::Nothing => Sending::Refused(refusals::NO_CLOCK),
+        Candidate::Clock(precedence, hop, _) => match departure::sent(samples, t, sender.back) {
+            Sent::At(grand, error) => {
+                Sending::Frame(fields(sender, precedence, hop, t, grand, error, port))
+            }
+            Sent::Few => Sending::Refused(refusals::FEW_SAMPLES),
+            Sent::Late => Sending::Refused(refusals::TOO_LATE),
+            Sent::Beyond => Sending::Refused(refusals::BEYOND_RANGE),
+        },
+    }
+}
+
+// Sends at t for the chosen clock: the frame fills the output, or the answer is 10 to 13; either way the next frameCount is used up.
+pub fn send(
+    port: Port,
+    choice: Candidate,
+    samples: Samples,
+    sender: Sender,
+    t: LocalTime,
+    out: &mut [u8],
+) -> PortDone
+    requires { ⌜ LawfulSamples samples ⌝ }
+    requires { ⌜ sender .back < longestElapsed ⌝ }
+    requires { ⌜ frameLength ≤ length (now out) ⌝ }
+    ensures { λ r. ⌜ r ≡ sendingDone (sendingOf choice samples sender t port) port ⌝ }
+    ensures { λ _. ⌜ now (out .exit) ≡ sendingBytes (sendingOf choice samples sender t port) (now (out .entry)) ⌝ }
+{
+    let mut answer = refusals::DONE;
+    match composed(choice, samples, sender, t, port) {
+        Sending::Refused(refusal) => {
+            answer = refusal;
+        }
+        Sending::Frame(f) => {
+            frame_write::put(f, out);
+        }
+    }
+    let mut after = port;
+    after.count = local::next_count(port.count);
+    PortDone {
+        answer: answer,
+        port: after,
+    }
+}

@@ -1,0 +1,18 @@
+-- What Own clock answers.
+use Rattle.bridge.proofs.PromiseLaws.{done-is}
+use borrow.Author.Needs.{needs}
+use Rattle.replay_changes.proofs.own_clock.Statement.{statement}
+use Rattle.replay_changes.proofs.own_clock.Tie as tie
+
+pub own-clock-spec : {M : Type 1} → statement M
+own-clock-spec =
+    tie.close
+    (tie.spec
+    (λ c κs. search needs)
+    (λ c. search needs)
+    (λ c. search needs)
+    (λ c. search needs)
+    (λ c κs. search needs)
+    (λ c κs. search needs)
+    (λ c. search needs)
+    (λ c. rw (← c .before .before .before .before .before .before .before .before .byte .ensures, ← done-is (c .before .before .before .before .own-clock .ensures)) (c .before .before .done .ensures)))

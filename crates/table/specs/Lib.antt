@@ -1,3 +1,0 @@
-pub mod Arguments
-pub mod Table
-pub mod Fits

@@ -1,0 +1,53 @@
+//! What every part of a life aims by: numbers at the ends of their range, the samples that a bridge follows, and where something first holds.
+
+use super::random::Random;
+use crate::bridge::{Listed, OWN};
+use crate::samples::Samples;
+use crate::times::{LOCAL_END, PART_END};
+
+/// Gives a local time, often one at an end of the circle or out of range.
+pub fn any_local(random: &mut Random) -> u64 {
+    match random.below(12) {
+        0 => 0,
+        1 => LOCAL_END - 1,
+        2 => LOCAL_END,
+        3 => random.pick(&[LOCAL_END + 1, u64::MAX]),
+        4 => random.sized(64),
+        5 => random.sized(48),
+        _ => random.below(LOCAL_END),
+    }
+}
+
+/// Gives seconds or a fraction, often at an end or out of range.
+pub fn any_part(random: &mut Random) -> u64 {
+    match random.below(10) {
+        0 => 0,
+        1 => PART_END - 1,
+        2 => PART_END,
+        3 => random.sized(64),
+        _ => random.below(PART_END),
+    }
+}
+
+/// Gives the samples of the clock that a bridge follows, none where it follows none.
+pub fn followed(bridge: &Listed) -> Samples {
+    let port = bridge.best().map_or(OWN, |chosen| chosen.port);
+    bridge.samples(port).copied().unwrap_or_default()
+}
+
+/// Finds the first of the numbers from low to high at which something holds that goes on to hold, where it is there.
+pub fn first_where(low: i128, high: i128, holds: impl Fn(i128) -> bool) -> Option<i128> {
+    if !holds(high) {
+        return None;
+    }
+    let (mut low, mut high) = (low, high);
+    while low < high {
+        let middle = (low + high).div_euclid(2);
+        if holds(middle) {
+            high = middle;
+        } else {
+            low = middle + 1;
+        }
+    }
+    Some(low)
+}
