@@ -49,5 +49,5 @@ pub fn asked_line(b: Bridge, text: &[u8], out: &mut [u8]) -> usize
     requires { ⌜ longestAnswer ≤ length (now out) ⌝ }
     ensures { λ r. ⌜ Prints (latchedOf b (now (text .entry)) .text) r (now (out .entry)) (now (out .exit)) ⌝ }
 {
-    stamped(recorder::stamp(b, digits::number(text)), out)
+    stamped(recorder_stamp::stamp(b, digits::number(text)), out)
 }

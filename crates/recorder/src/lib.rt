@@ -1,13 +1,8 @@
-// The recorder's own events: the grand time of a local time that its front end latched when a wave arrived.
+// The recorder's own events: the grand time of a local time that its front end latched when a wave arrived, off a clock's samples.
 ghost use mathlib.Core.Path.{_≡_};
 ghost use Rattle.samples.specs.Keep.{endsOf, LawfulSamples};
-ghost use Rattle.bridge.specs.State.{Lawful};
 ghost use Rattle.recorder.specs.Stamp.{distanceOf, stampThrough};
-ghost use Rattle.recorder.specs.Promises.{StampPromise};
-use bridge::Bridge;
-use choice::Candidate;
 use numbers::whole;
-use port::record;
 use samples::Ends;
 use samples::Samples;
 use samples::kept;
@@ -46,7 +41,7 @@ fn distance(latch: LocalTime, newer: LocalTime) -> i64
 }
 
 // The stamp of a latch, read off the line through the ends of a clock's samples.
-fn through(samples: Samples, latch: LocalTime) -> Stamped
+pub fn through(samples: Samples, latch: LocalTime) -> Stamped
     requires { ⌜ LawfulSamples samples ⌝ }
     ensures { λ r. ⌜ r ≡ stampThrough (endsOf samples) latch ⌝ }
 {
@@ -62,33 +57,5 @@ fn through(samples: Samples, latch: LocalTime) -> Stamped
                 Moment::Beyond => Stamped::Refused(refusals::BEYOND_RANGE),
             }
         }
-    }
-}
-
-// Stamp: the grand time of a latched local time, by the chosen clock. The state stays as it is, and samples read at a constant place are not copied.
-pub fn stamp(b: Bridge, latch: u64) -> Stamped
-    requires { ⌜ Lawful b ⌝ }
-    ensures { λ r. ⌜ StampPromise b latch r ⌝ }
-{
-    if bridge_arguments::off_circle(latch) {
-        return Stamped::Refused(refusals::OUT_OF_RANGE);
-    }
-    match bridge_chosen::chosen(b) {
-        Candidate::Nothing => Stamped::Refused(refusals::NO_CLOCK),
-        Candidate::Clock(_, _, number) => match number {
-            0 => {
-                let clock = b.clock;
-                let samples = clock.samples;
-                through(samples, LocalTime(latch))
-            }
-            1 => through(record::samples(b.ports[0]), LocalTime(latch)),
-            2 => through(record::samples(b.ports[1]), LocalTime(latch)),
-            3 => through(record::samples(b.ports[2]), LocalTime(latch)),
-            4 => through(record::samples(b.ports[3]), LocalTime(latch)),
-            5 => through(record::samples(b.ports[4]), LocalTime(latch)),
-            6 => through(record::samples(b.ports[5]), LocalTime(latch)),
-            7 => through(record::samples(b.ports[6]), LocalTime(latch)),
-            _ => through(record::samples(b.ports[7]), LocalTime(latch)),
-        },
     }
 }

@@ -81,5 +81,5 @@ pub fn stamp(b: Bridge, form: Form, out: &mut [u8]) -> usize
     requires { ⌜ longestAnswer ≤ length (now out) ⌝ }
     ensures { λ r. ⌜ Prints (stampText (stampOf b (numberIn form 0))) r (now (out .entry)) (now (out .exit)) ⌝ }
 {
-    stamped(recorder::stamp(b, form.numbers[0]), out)
+    stamped(recorder_stamp::stamp(b, form.numbers[0]), out)
 }

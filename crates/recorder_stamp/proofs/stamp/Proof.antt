@@ -12,14 +12,14 @@ use Rattle.choice.specs.declared.Candidate.the-variants.{Clock}
 use Rattle.choice.specs.Choose.{numberOf}
 use Rattle.bridge.specs.Table.{mostPorts, samplesAt, samplesOfChoice}
 use Rattle.bridge.specs.Chosen.{chosenOf}
 use Rattle.recorder.specs.Stamp.{latched, stampThrough}
 use Rattle.recorder.specs.Promises.{StampPromise}
 use Rattle.recorder.specs.declared.Stamped.{Stamped}
 use Rattle.bridge.proofs.TableLaws.{samples-own}
 use Rattle.bridge.proofs.StateLaws.{NoneBelow, chosen-number, last-port, record-lawful, record-samples}
 use Rattle.recorder.proofs.StampLaws.{stamp-off, stamp-by, stamp-out}
-use Rattle.recorder.proofs.stamp.Statement.{statement}
-use Rattle.recorder.proofs.stamp.Tie as tie
+use Rattle.recorder_stamp.proofs.stamp.Statement.{statement}
+use Rattle.recorder_stamp.proofs.stamp.Tie as tie
 
 -- what was asked, where a clock is chosen, and that clock's number
 abbrev asked : tie.After-known-told → tie.Start
