@@ -3,7 +3,7 @@ use mathlib.Core.Path.{_≡_, refl, sym, ap, _∙_}
 use mathlib.Core.Bool.{Bool, true, false}
 use Prim.Native.Nat.{ℕ, zero, suc, _*_, _%_, _^_, _<_, _≤_}
 use native.Mathlib.Nat.{one-mul, mod-eq-of-lt, lt-of-le-of-lt}
-use borrow.Author.Tests.{leb-true, ltb-true}
+use borrow.Author.Tests.{leb-true, ltb-true, le-ltb}
 use lib.Dec.{lit<, leb, ltb}
 use lib.Pow.{pow-mono}
 use Rattle.times.specs.Times.{circle, second}
@@ -82,6 +82,11 @@ pub record InTime (seconds fraction at : ℕ) : Type 0 where
   pub whole : seconds < second
   pub part : fraction < second
   pub time : at < circle
+
+-- a time out of range is 2 before it is looked at whether the station is capable
+pub own-range : (capable : Bool) (seconds fraction at : ℕ) → second ≤ seconds → ownClockRefusal capable seconds fraction at ≡ 2
+unfolding ownClockRefusal
+own-range capable seconds fraction at h = rw (le-ltb seconds second h)
 
 pub own-ready : (capable : Bool) (seconds fraction at : ℕ) → ownClockRefusal capable seconds fraction at ≡ 0 → InTime seconds fraction at
 unfolding ownClockRefusal
