@@ -22,9 +22,21 @@ Inv-loop at next₀ answer timeout old i₀ next i = Stored (agesBy next₀ at) 
 abbrev μ-loop : tie.MeasureT-loop
 μ-loop at next₀ answer timeout old i₀ next i = mostPorts - i
 
+-- where the first six announcements are looked at
+abbrev six : tie.After-finds-old8 Inv-loop μ-loop → tie.After-finds-old6 Inv-loop μ-loop
+six c = c .before .before .before .before
+
+-- where the first four are
+abbrev four : tie.After-finds-old6 Inv-loop μ-loop → tie.After-finds-old4 Inv-loop μ-loop
+four c = c .before .before .before .before
+
+-- where the first two are
+abbrev two : tie.After-finds-old4 Inv-loop μ-loop → tie.After-finds-old2 Inv-loop μ-loop
+two c = c .before .before .before .before
+
 -- back from the last announcement's answer to where the local time was found in range
 abbrev ranged : tie.After-finds-old8 Inv-loop μ-loop → tie.Then1 Inv-loop μ-loop
-ranged c = c .before .before .before .before .before .before .before .before .before .before .before .before .before .before .before .before
+ranged c = two (four (six c)) .before .before .before .before
 
 -- where none was found too old, none is, one by one
 none-old : (c : tie.After-finds-old8 Inv-loop μ-loop) → let s = ranged c .before .before in NoneOld (s .args .b) (s .args .at) mostPorts (c .finds-old8 .result)

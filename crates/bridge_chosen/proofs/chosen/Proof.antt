@@ -10,9 +10,25 @@ use Rattle.bridge.proofs.PromiseLaws.{chosen-out}
 use Rattle.bridge_chosen.proofs.chosen.Statement.{statement}
 use Rattle.bridge_chosen.proofs.chosen.Tie as tie
 
+-- where the first six records are ranked
+abbrev six : tie.After-lesser8 → tie.After-lesser6
+six c = c .before .before .before .before
+
+-- where the first four are
+abbrev four : tie.After-lesser6 → tie.After-lesser4
+four c = c .before .before .before .before
+
+-- where the first two are
+abbrev two : tie.After-lesser4 → tie.After-lesser2
+two c = c .before .before .before .before
+
+-- where the own clock is, and no record
+abbrev own : tie.After-lesser2 → tie.After-own2
+own c = c .before .before .before .before
+
 -- the state that is asked
 abbrev asked : tie.After-lesser8 → tie.Start
-asked c = c .before .before .before .before .before .before .before .before .before .before .before .before .before .before .before .before .before .before
+asked c = own (two (four (six c))) .before .before
 
 -- record by record, from the last back to the own clock
 chosen-rank : (c : tie.After-lesser8) → Ranks (c .lesser8 .result) (chosenOf (asked c .args .t1))

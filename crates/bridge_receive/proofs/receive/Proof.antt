@@ -44,6 +44,14 @@ read o = o .before .before .before .before .before
 abbrev start : tie.After-own2 Inv-loop μ-loop → tie.Start Inv-loop μ-loop
 start o = read o .before .before .before .before
 
+-- where the own clock was ranked, before the ports' records
+abbrev own : tie.After-chosen-hop Inv-loop μ-loop → tie.After-own2 Inv-loop μ-loop
+own h = h .before .before .before .before
+
+-- where H of the chosen clock was found
+abbrev hop : tie.After-receive Inv-loop μ-loop → tie.After-chosen-hop Inv-loop μ-loop
+hop r = r .before .before .before .before
+
 ready : (o : tie.After-own2 Inv-loop μ-loop) → let a = start o .args in Ready (a .b .setup .n) (a .port) (a .arrival)
 ready o =
     let e = read o .before in
@@ -69,14 +77,14 @@ loop-again c =
 
 receive-requires : tie.Need-receive-requires Inv-loop μ-loop
 receive-requires c κs =
-    let o = c .before .before .before .before .before .before .before in
+    let o = own (c .before .before .before) in
     (start o .pre .ports-lawful _, read-in-range _ _ (bytes (read o .before .before)) (sym (read o .read .ensures .answer) ∙ o .before .before .before .f .given .1))
 
 taken : tie.Need-returns-2 Inv-loop μ-loop
 taken c =
     let r = c .before in
-    let h = r .before .before .before .before in
-    let o = h .before .before .before .before in
+    let h = hop r in
+    let o = own h in
     let e = read o .before in
     let a = start o .args in
     let i = a .port - 1 in
@@ -120,15 +128,15 @@ receive-spec =
     loop-again
     (λ c κs. (_, chosen c))
     (λ c κs. search needs)
-    (λ c. omega (arith, ready (c .before .before .before .before) .low))
+    (λ c. omega (arith, ready (own c) .low))
     (λ c. search needs)
     (λ c. search needs)
-    (λ c. index (c .before .before .before .before))
+    (λ c. index (own c))
     (λ c. search needs)
-    (λ c. index (c .before .before .before .before .before .before))
+    (λ c. index (own (c .before .before)))
     receive-requires
-    (λ c. omega (arith, index (c .before .before .before .before .before .before .before .before .before)))
-    (λ c. index (c .before .before .before .before .before .before .before .before .before))
+    (λ c. omega (arith, index (own (hop (c .before)))))
+    (λ c. index (own (hop (c .before))))
     unread
     taken
     refused)

@@ -71,6 +71,10 @@ number-small c =
 abbrev given : tie.After-clock Inv-loop μ-loop → tie.After-own2 Inv-loop μ-loop
 given c = c .before .before .before .before .before
 
+-- where the samples were found
+abbrev found : tie.After-send Inv-loop μ-loop → tie.Joined2 Inv-loop μ-loop
+found d = d .before .before .before .before
+
 -- the samples are those of that number
 picked : (c : tie.Joined2 Inv-loop μ-loop) → let b = start (given (c .before)) .args .b in c .if2 .samples ≡ samplesAt (numberOf (c .before .before .before .candidate .result)) (b .clock) (b .ports)
 picked c =
@@ -91,7 +95,7 @@ send-requires c κs =
 sent : tie.Need-returns Inv-loop μ-loop
 sent c =
     let d = c .before .before .before in
-    let j = d .before .before .before .before in
+    let j = found d in
     let o = given (j .before) in
     let k = o .before .before in
     let s = start o in
@@ -139,8 +143,8 @@ send-spec =
     (λ c. search needs)
     (λ c. index (given (c .before)))
     send-requires
-    (λ c. omega (arith, index (given (c .before .before .before .before .before .before .before .before))))
-    (λ c. index (given (c .before .before .before .before .before .before .before .before)))
+    (λ c. omega (arith, index (given (found (c .before .before .before) .before))))
+    (λ c. index (given (found (c .before .before .before) .before)))
     (λ c. search needs)
     sent
     refused)

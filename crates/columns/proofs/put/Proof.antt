@@ -21,19 +21,23 @@ Inv-loop out₀ widths values at₀ i₀ out at i =
 abbrev μ-loop : tie.MeasureT-loop
 μ-loop out₀ widths values at₀ i₀ out at i = length widths - i
 
+-- where the function was entered
+abbrev start : tie.At-loop Inv-loop μ-loop → tie.Start Inv-loop μ-loop
+start l = l .before .before .before .before
+
 loop-holds : tie.Need-loop-holds Inv-loop μ-loop
 loop-holds c = (search needs, refl, search needs, λ left end p. p)
 
 put-column-requires : tie.Need-put-column-requires Inv-loop μ-loop
 put-column-requires c κs =
     let l = c .before .before .before .before .loop in
-    omega (arith, next-room (c .before .before .before .before .before .before .before .before .args .widths .now) (l .i) (omega arith))
+    omega (arith, next-room (start (c .before .before .before .before) .args .widths .now) (l .i) (omega arith))
 
 loop-again : tie.Need-loop-again Inv-loop μ-loop
 loop-again c =
     let p = c .before .before in
     let l = p .before .before .before .before .before .loop in
-    let a = p .before .before .before .before .before .before .before .before .before .args in
+    let a = start (p .before .before .before .before .before) .args in
     let ws = a .widths .now in
     let vs = a .values .now in
     let h : l .i < length ws = omega arith in (
@@ -47,7 +51,7 @@ returns : tie.Need-returns Inv-loop μ-loop
 unfolding columnsText
 returns c =
     let l = c .before .loop in
-    let s = c .before .before .before .before .before in
+    let s = start (c .before) in
     let e : l .i ≡ length (s .args .widths .now) = omega arith in
     let z : drop (l .i) (s .args .widths .now) ≡ [] = ap (λ (n : ℕ). drop n (s .args .widths .now)) e ∙ drop-length (s .args .widths .now) in
     let p = l .inv .3 (l .out) (l .at) (rw z (puts-nothing (l .at) (l .out))) in

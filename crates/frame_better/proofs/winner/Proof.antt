@@ -6,6 +6,10 @@ use Rattle.frame.proofs.FrameLaws.{by-key}
 use Rattle.frame_better.proofs.winner.Statement.{statement}
 use Rattle.frame_better.proofs.winner.Tie as tie
 
+-- where the first was found to stand
+abbrev first : tie.After-second → tie.After-first
+first s = s .before .before .before
+
 enum-told : tie.Need-enum-told
 enum-told c = search needs
 
@@ -40,10 +44,14 @@ unfolding winnerOf
 returns-3 c = λ i. winnerOf (sym (c .before .before .before .first .given .1) i) (sym (c .enum-told4 .given .1) i)
 
 returns-4 : tie.Need-returns-4
-returns-4 c = by-key (c .before .before .before .before .before .before .first .given .1) (c .before .before .before .second .given .1) (sym (c .before .key-precedes .ensures) ∙ c .if1 .taken)
+returns-4 c =
+    let s = c .before .before .before in
+    by-key (first s .first .given .1) (s .second .given .1) (sym (c .before .key-precedes .ensures) ∙ c .if1 .taken)
 
 returns-5 : tie.Need-returns-5
-returns-5 c = by-key (c .before .before .before .before .before .before .first .given .1) (c .before .before .before .second .given .1) (sym (c .before .key-precedes .ensures) ∙ c .if1 .left)
+returns-5 c =
+    let s = c .before .before .before in
+    by-key (first s .first .given .1) (s .second .given .1) (sym (c .before .key-precedes .ensures) ∙ c .if1 .left)
 
 pub winner-spec : {M : Type 1} → statement M
 winner-spec =

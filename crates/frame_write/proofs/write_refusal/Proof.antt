@@ -6,6 +6,14 @@ use Rattle.frame.proofs.FrameLaws.{past, stopped}
 use Rattle.frame_write.proofs.write_refusal.Statement.{statement}
 use Rattle.frame_write.proofs.write_refusal.Tie as tie
 
+-- where the first test was passed
+abbrev first : tie.Else3 → tie.Else1
+first e = e .before .before .before .before
+
+-- where the second was
+abbrev second : tie.Else4 → tie.Else2
+second e = e .before .before .before .before
+
 returns : tie.Need-returns
 unfolding writeRefusal
 returns c = stopped _ 2 _ (le-ltb _ _ (c .if1 .taken))
@@ -26,7 +34,7 @@ returns-3 c =
 returns-4 : tie.Need-returns-4
 unfolding writeRefusal
 returns-4 c =
-    past _ 2 (lt-ltb _ _ (c .before .before .before .before .before .before .if1 .left))
+    past _ 2 (lt-ltb _ _ (first (c .before .before) .if1 .left))
     (past _ 2 (lt-ltb _ _ (c .before .before .before .before .if2 .left))
     (past _ 2 (lt-ltb _ _ (c .before .before .if3 .left))
     (stopped _ 2 _ (le-ltb _ _ (c .if4 .taken)))))
@@ -34,8 +42,8 @@ returns-4 c =
 returns-5 : tie.Need-returns-5
 unfolding writeRefusal
 returns-5 c =
-    past _ 2 (lt-ltb _ _ (c .before .before .before .before .before .before .before .before .if1 .left))
-    (past _ 2 (lt-ltb _ _ (c .before .before .before .before .before .before .if2 .left))
+    past _ 2 (lt-ltb _ _ (first (c .before .before .before .before) .if1 .left))
+    (past _ 2 (lt-ltb _ _ (second (c .before .before) .if2 .left))
     (past _ 2 (lt-ltb _ _ (c .before .before .before .before .if3 .left))
     (past _ 2 (lt-ltb _ _ (c .before .before .if4 .left))
     (stopped _ 2 _ (le-ltb _ _ (c .if5 .taken))))))
@@ -43,8 +51,8 @@ returns-5 c =
 returns-6 : tie.Need-returns-6
 unfolding writeRefusal
 returns-6 c =
-    past _ 2 (lt-ltb _ _ (c .before .before .before .before .before .before .before .before .before .if1 .left))
-    (past _ 2 (lt-ltb _ _ (c .before .before .before .before .before .before .before .if2 .left))
+    past _ 2 (lt-ltb _ _ (first (c .before .before .before .before .before) .if1 .left))
+    (past _ 2 (lt-ltb _ _ (second (c .before .before .before) .if2 .left))
     (past _ 2 (lt-ltb _ _ (c .before .before .before .before .before .if3 .left))
     (past _ 2 (lt-ltb _ _ (c .before .before .before .if4 .left))
     (past _ 2 (lt-ltb _ _ (c .before .if5 .left))
@@ -53,8 +61,8 @@ returns-6 c =
 returns-7 : tie.Need-returns-7
 unfolding writeRefusal
 returns-7 c =
-    past _ 2 (lt-ltb _ _ (c .before .before .before .before .before .before .before .before .before .if1 .left))
-    (past _ 2 (lt-ltb _ _ (c .before .before .before .before .before .before .before .if2 .left))
+    past _ 2 (lt-ltb _ _ (first (c .before .before .before .before .before) .if1 .left))
+    (past _ 2 (lt-ltb _ _ (second (c .before .before .before) .if2 .left))
     (past _ 2 (lt-ltb _ _ (c .before .before .before .before .before .if3 .left))
     (past _ 2 (lt-ltb _ _ (c .before .before .before .if4 .left))
     (past _ 2 (lt-ltb _ _ (c .before .if5 .left))

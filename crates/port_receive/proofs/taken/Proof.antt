@@ -9,6 +9,10 @@ use borrow.Author.Needs.{needs}
 use Rattle.port_receive.proofs.taken.Statement.{statement}
 use Rattle.port_receive.proofs.taken.Tie as tie
 
+-- where the function was entered
+abbrev start : tie.After-earlier-by → tie.Start
+start e = e .before .before .before .before .before
+
 earlier-by-requires : tie.Need-earlier-by-requires
 earlier-by-requires c κs = search needs
 
@@ -20,7 +24,7 @@ keep-requires c κs = search needs
 
 returns : tie.Need-returns
 returns c =
-    let a = c .before .before .before .before .before .before .before .args in
+    let a = start (c .before .before) .args in
     let kept : c .keep .result ≡ keptOf (a .port .samples) (sameClock (a .port .announcement) (a .f .precedence)) (sampleOf (a .f) (a .p) (a .delay)) =
     c .keep .ensures
     ∙ (λ i. keptOf (a .port .samples) (c .before .same-clock .ensures i) (record { grand = a .f .grand; local = c .before .before .earlier-by .ensures i; error = a .f .error })) in

@@ -21,9 +21,13 @@ use Rattle.recorder.proofs.StampLaws.{stamp-off, stamp-by, stamp-out}
 use Rattle.recorder_stamp.proofs.stamp.Statement.{statement}
 use Rattle.recorder_stamp.proofs.stamp.Tie as tie
 
+-- where the choice was asked for
+abbrev choice : tie.After-known-told → tie.After-chosen
+choice k = k .before .before .before
+
 -- what was asked, where a clock is chosen, and that clock's number
 abbrev asked : tie.After-known-told → tie.Start
-asked k = k .before .before .before .before .before .before
+asked k = choice k .before .before .before
 
 abbrev number : tie.After-known-told → ℕ
 number k = k .before .number .given .0 .1 .1 .0
@@ -34,7 +38,7 @@ on-circle c = leb-false _ _ (sym (c .before .before .off-circle .ensures) ∙ c 
 
 -- the clock that is chosen
 chosen-is : (k : tie.After-known-told) → let g = k .before .number .given .0 in Clock (g .0) (g .1 .0) (number k) ≡ chosenOf (asked k .args .t1)
-chosen-is k = sym (k .before .number .given .1) ∙ k .before .before .before .chosen .ensures .answer
+chosen-is k = sym (k .before .number .given .1) ∙ choice k .chosen .ensures .answer
 
 -- an arm of the match, by the samples that it reads
 arm : (k : tie.After-known-told) {samples : Samples} {r : Stamped} → let a = asked k .args in samples ≡ samplesAt (number k) (a .t1 .clock) (a .t1 .ports)
@@ -43,7 +47,7 @@ unfolding samplesOfChoice
 arm k s q =
     let a = asked k .args in
     let chosen = s ∙ ap (λ (x : Candidate). samplesOfChoice x (a .t1 .clock) (a .t1 .ports)) (chosen-is k) in
-    stamp-out _ _ _ (q ∙ ap (λ (x : Samples). stampThrough (endsOf x) (latched (a .latch))) chosen ∙ stamp-by _ _ (on-circle (k .before .before .before)) (chosen-is k))
+    stamp-out _ _ _ (q ∙ ap (λ (x : Samples). stampThrough (endsOf x) (latched (a .latch))) chosen ∙ stamp-by _ _ (on-circle (choice k)) (chosen-is k))
 
 -- a number that no arm but the last matches
 last : (k : tie.After-known-told) → NoneBelow (number k) mostPorts → number k ≡ mostPorts

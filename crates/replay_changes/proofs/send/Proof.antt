@@ -8,6 +8,10 @@ use borrow.Author.Needs.{needs}
 use Rattle.replay_changes.proofs.send.Statement.{statement}
 use Rattle.replay_changes.proofs.send.Tie as tie
 
+-- where the size of the output was read
+abbrev sized : tie.After-sent → tie.After-size
+sized t = t .before .before .before .before
+
 pub send-spec : {M : Type 1} → statement M
 send-spec =
     tie.close
@@ -22,4 +26,7 @@ send-spec =
     let t = s .before .before .before in
     (t .pre .0, (omega (arith, s .size .ensures, length-take (s .size .result) (replicate 128 untouchedByte)), t .pre .1)))
     (λ c. search needs)
-    (λ c. rw (← c .before .before .before .before .before .before .before .before .byte .ensures, ← c .before .before .before .before .before .before .before .size .ensures) (c .before .before .before .sent .ensures)))
+    (λ c.
+    let t = c .before .before .before in
+    let s = sized t in
+    rw (← s .before .byte .ensures, ← s .size .ensures) (t .sent .ensures)))

@@ -7,7 +7,8 @@ use Rattle.replay_frames.proofs.frame_fields.Tie as tie
 returns : tie.Need-returns
 unfolding fieldsIn
 returns c =
-    let b = c .before .before .before .before .before .before in
+    let t = c .before .before .before .before .before in
+    let b = t .before in
     let y = b .before in
     let p = y .before in
     let m = p .before in

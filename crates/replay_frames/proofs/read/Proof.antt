@@ -6,6 +6,10 @@ use borrow.Author.Needs.{needs}
 use Rattle.replay_frames.proofs.read.Statement.{statement}
 use Rattle.replay_frames.proofs.read.Tie as tie
 
+-- where the size of the frame was read
+abbrev sized : tie.After-read → tie.After-size
+sized r = r .before .before .before
+
 pub read-spec : {M : Type 1} → statement M
 read-spec =
     tie.close
@@ -16,4 +20,6 @@ read-spec =
     (λ c κs. search needs)
     (λ c κs. search needs)
     (λ c. search needs)
-    (λ c. rw (← c .before .before .before .before .before .before .before .size .ensures, ← c .before .before .before .before .read .ensures .answer) (c .before .before .reading .ensures)))
+    (λ c.
+    let r = c .before .before .before .before in
+    rw (← sized r .size .ensures, ← r .read .ensures .answer) (c .before .before .reading .ensures)))

@@ -8,6 +8,10 @@ use borrow.Author.Needs.{needs}
 use Rattle.replay_frames.proofs.write.Statement.{statement}
 use Rattle.replay_frames.proofs.write.Tie as tie
 
+-- where the size of the output was read
+abbrev sized : tie.After-written → tie.After-size
+sized w = w .before .before .before
+
 pub write-spec : {M : Type 1} → statement M
 write-spec =
     tie.close
@@ -18,4 +22,7 @@ write-spec =
     (λ c. sym (length-take-le _ (replicate 128 untouchedByte) (omega (arith, c .before .size .ensures))))
     (λ c κs. (omega (arith, c .before .before .size .ensures, length-take (c .before .before .size .result) (replicate 128 untouchedByte)), c .before .before .before .before .before .pre))
     (λ c. search needs)
-    (λ c. rw (← c .before .before .before .before .before .before .before .frame-fields .ensures, ← c .before .before .before .before .before .before .size .ensures) (c .before .before .before .written .ensures)))
+    (λ c.
+    let w = c .before .before .before in
+    let s = sized w in
+    rw (← s .before .frame-fields .ensures, ← s .size .ensures) (w .written .ensures)))

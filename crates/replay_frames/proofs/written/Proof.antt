@@ -3,6 +3,10 @@ use borrow.Author.Needs.{needs}
 use Rattle.replay_frames.proofs.written.Statement.{statement}
 use Rattle.replay_frames.proofs.written.Tie as tie
 
+-- where the frame was written
+abbrev written : tie.After-with-bytes → tie.After-write
+written w = w .before .before .before .before .before
+
 pub written-spec : {M : Type 1} → statement M
 written-spec =
     tie.close
@@ -11,4 +15,7 @@ written-spec =
     (λ c κs. search needs)
     (λ c. search needs)
     (λ c. search needs)
-    (λ c. rw (← c .before .before .before .before .before .before .before .write .ensures .answer, ← c .before .before .before .before .before .before .before .write .ensures .bytes) (c .before .before .with-bytes .ensures)))
+    (λ c.
+    let w = c .before .before in
+    let f = written w in
+    rw (← f .write .ensures .answer, ← f .write .ensures .bytes) (w .with-bytes .ensures)))

@@ -16,10 +16,14 @@ use Rattle.session.proofs.TwoReads.{two-reads}
 use Rattle.session.proofs.turn.Statement.{statement}
 use Rattle.session.proofs.turn.Tie as tie
 
+-- where the function was entered
+abbrev start : tie.After-found → tie.Start
+start f = f .before .before .before .before .before
+
 -- the first line ends within the bytes
-ends : (c : tie.After-found) → c .found .result ≤ length (c .before .before .before .before .before .args .bytes .now)
+ends : (c : tie.After-found) → c .found .result ≤ length (start c .args .bytes .now)
 ends c =
-    let s = c .before .before .before .before .before in
+    let s = start c in
     omega (arith, c .found .ensures, found-within newlineByte (s .args .bytes .now) (s .args .from) (s .pre .1 .0))
 
 -- and no more is kept of it than there is room for
@@ -29,22 +33,22 @@ short c = omega (arith, rw length-take at (c .kept .ensures .0))
 -- what the bytes before its end lead to and print
 cut : (c : tie.After-kept) →
     let f = c .before .before .before in
-    let s = f .before .before .before .before .before in
+    let s = start f in
     let line = lineOf (s .args .s) in
     let piece = part (s .args .bytes .now) (s .args .from) (f .found .result) in
     fedOf (s .args .program) (s .args .s .bridge) line piece ≡ left (s .args .s .bridge) (line ++ piece)
 cut c =
     let f = c .before .before .before in
-    let s = f .before .before .before .before .before in
+    let s = start f in
     rest-fed (s .args .program) (s .args .s .bridge) (lineOf (s .args .s)) (s .args .bytes .now) (s .args .from) (f .found .result) (f .found .ensures)
 
 -- the session there
 abbrev held : tie.After-kept → Session
-held c = record { bridge = c .before .before .before .before .before .before .before .before .args .s .bridge; text = c .kept .last .0; len = c .kept .result }
+held c = record { bridge = start (c .before .before .before) .args .s .bridge; text = c .kept .last .0; len = c .kept .result }
 
 at-newline : (c : tie.After-kept) →
     let f = c .before .before .before in
-    let s = f .before .before .before .before .before in
+    let s = start f in
     Leaves (fedOf (s .args .program) (s .args .s .bridge) (lineOf (s .args .s)) (part (s .args .bytes .now) (s .args .from) (f .found .result))) (held c)
 at-newline c =
     let e = cut c in
@@ -54,7 +58,7 @@ returns : tie.Need-returns
 returns c =
     let k = c .before in
     let f = k .before .before .before in
-    let s = f .before .before .before .before .before in
+    let s = start f in
     record {
       ready = record { lawful = s .pre .0 .lawful; room = k .kept .ensures .1 .1; short = short k };
       leaves = at-newline k;
@@ -76,7 +80,7 @@ whole-lines-requires c κs =
     let i = c .before .before in
     let k = i .before in
     let f = k .before .before .before in
-    let s = f .before .before .before .before .before in
+    let s = start f in
     let e = kept-empty (lineOf (s .args .s)) (s .args .bytes .now) (s .args .from) (f .found .result) (omega (arith, f .found .ensures)) (ends f) in (
       s .pre .0 .lawful,
       (
@@ -94,7 +98,7 @@ returns-2 c =
     let i = w .before .before .before in
     let k = i .before in
     let f = k .before .before .before in
-    let s = f .before .before .before .before .before in
+    let s = start f in
     let p = s .args .program in
     let b = s .args .s .bridge in
     let bytes = s .args .bytes .now in

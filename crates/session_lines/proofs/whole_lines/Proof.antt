@@ -39,6 +39,14 @@ Inv-loop program first bytes from out₀ next₀ n₀ held₀ start₀ end₀ ou
 abbrev μ-loop : tie.MeasureT-loop
 μ-loop program first bytes from out₀ next₀ n₀ held₀ start₀ end₀ out next n held start end = length bytes - end
 
+-- where the function was entered
+abbrev start : tie.At-loop Inv-loop μ-loop → tie.Start Inv-loop μ-loop
+start l = l .before .before .before .before .before
+
+-- the turn in which a line was looked at, where there is room for its answer
+abbrev turn : tie.After-asks Inv-loop μ-loop → tie.Then1 Inv-loop μ-loop
+turn a = a .before .before .before .before
+
 -- a turn has room for one more answer
 room : (c : tie.Then1 Inv-loop μ-loop) → longestAnswer ≤ length (c .before .before .loop .out) - c .before .before .loop .n
 room c = leb-true _ _ (c .if1 .taken)
@@ -56,14 +64,14 @@ filled c len h = record { fits = omega (arith, room c, c .before .before .loop .
 -- what a turn adds, whether its line asks or not
 line-adds : (c : tie.Joined2 Inv-loop μ-loop) →
     let a = c .before in
-    let l = a .before .before .before .before .before .before in
-    let s = l .before .before .before .before .before in
+    let l = turn a .before .before in
+    let s = start l in
     Adds (answerBy (s .args .program) (l .loop .next) (a .before .line .result .now)) (l .loop .out) (l .loop .n) (c .if2 .next) (c .if2 .out) (c .if2 .n)
 line-adds c =
     let a = c .before in
-    let i = a .before .before .before .before in
+    let i = turn a in
     let l = i .before .before in
-    let s = l .before .before .before .before .before in
+    let s = start l in
     let v = l .loop .inv in
     let shown = a .before .line .result .now in
     let want = answerBy (s .args .program) (l .loop .next) shown in
@@ -107,26 +115,26 @@ asked-requires : tie.Need-asked-requires Inv-loop μ-loop
 asked-requires c κs =
     let t = c .before in
     let a = t .before in
-    let i = a .before .before .before .before in
+    let i = turn a in
     (i .before .before .loop .inv .lawful, (sym (a .asks .ensures) ∙ t .if2 .taken, lent i))
 
 answer-line-requires : tie.Need-answer-line-requires Inv-loop μ-loop
 answer-line-requires c κs =
     let t = c .before in
     let a = t .before in
-    let i = a .before .before .before .before in
+    let i = turn a in
     (i .before .before .loop .inv .lawful, (sym (a .asks .ensures) ∙ t .if2 .left, lent i))
 
 add-n : tie.Need-add-n Inv-loop μ-loop
 add-n c =
     let a = c .before .before in
-    let i = a .before .before .before .before .before .before .before in
+    let i = turn (a .before .before .before) in
     filled i _ (a .asked .ensures .fits)
 
 add-n-2 : tie.Need-add-n-2 Inv-loop μ-loop
 add-n-2 c =
     let a = c .before .before .before .before in
-    let i = a .before .before .before .before .before .before .before in
+    let i = turn (a .before .before .before) in
     filled i _ (a .answer-line .ensures .prints .fits)
 
 loop-again : tie.Need-loop-again Inv-loop μ-loop
@@ -135,7 +143,7 @@ loop-again c =
     let r = j .before .before in
     let t = r .before .before .before .before in
     let l = t .before .loop in
-    let s = t .before .before .before .before .before .before in
+    let s = start (t .before) in
     let a = s .args in
     let v = l .inv in
     let x = line-adds j in
@@ -156,14 +164,14 @@ loop-again c =
 -- where the loop is left, a line has been answered
 done : (c : tie.At-loop Inv-loop μ-loop) →
     let l = c .loop in
-    let s = c .before .before .before .before .before in
+    let s = start c in
     (l .n ≡ 0 → l .start ≡ s .args .from → ⊥)
     → Lawful (l .next)
     × ((fedOf (s .args .program) (s .args .b) (s .args .first .now) (part (s .args .bytes .now) (lineEnd (s .args .bytes .now) (s .args .from)) (l .start)) ≡ ended (l .next) (take (l .n) (l .out)))
     × Within (lineEnd (s .args .bytes .now) (s .args .from) + 1) (l .start) (l .n) (s .args .bytes .now) (l .out))
 done c f =
     let l = c .loop in
-    let a = c .before .before .before .before .before .args in
+    let a = start c .args in
     let v = l .inv in
     let e = lines-end (a .program) (a .b) (a .first .now) (a .bytes .now) (a .from) (l .next) (take (l .n) (l .out)) (l .held) (l .n) (l .start) (v .stands) f (v .goes) in
     (v .lawful, (e .0, record { onward = omega (arith, e .1); inside = v .start-most; fits = v .fits }))
@@ -171,13 +179,13 @@ done c f =
 no-room : tie.Need-returns Inv-loop μ-loop
 no-room c =
     let l = c .before .before in
-    let s = l .before .before .before .before .before in
+    let s = start l in
     done l (λ z w. omega (arith, leb-false longestAnswer (length (l .loop .out) - l .loop .n) (c .if1 .left), s .pre .1 .1, l .loop .inv .same))
 
 no-line : tie.Need-returns-2 Inv-loop μ-loop
 no-line c =
     let l = c .before in
-    let s = l .before .before .before .before .before in
+    let s = start l in
     done l (λ z w. omega (arith, c .loop-test .left, l .loop .inv .ends, ap (lineEnd (s .args .bytes .now)) w, s .pre .1 .0 .inside))
 
 pub whole-lines-spec : {M : Type 1} → statement M

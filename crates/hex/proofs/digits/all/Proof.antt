@@ -18,6 +18,10 @@ Inv-loop text greatest₀ i₀ greatest i = (i ≤ length text) × (cond (ltb gr
 abbrev μ-loop : tie.MeasureT-loop
 μ-loop text greatest₀ i₀ greatest i = length text - i
 
+-- where the function was entered
+abbrev start : tie.At-loop Inv-loop μ-loop → tie.Start Inv-loop μ-loop
+start l = l .before .before
+
 loop-holds : tie.Need-loop-holds Inv-loop μ-loop
 loop-holds c = (search needs, refl)
 
@@ -39,14 +43,14 @@ loop-less c = search needs
 loop-again : tie.Need-loop-again Inv-loop μ-loop
 loop-again c =
     let l = c .before .before .before .before .loop in
-    let s = c .before .before .before .before .before .before .args .text .now in
+    let s = start (c .before .before .before .before) .args .text .now in
     let h = c .before .before .before .loop-test .taken in
     (omega arith, all-more s (l .i) (l .greatest) (c .before .value .result) (c .greater .result) h (c .before .value .ensures) (c .greater .ensures) ∙ l .inv .1)
 
 returns : tie.Need-returns Inv-loop μ-loop
 returns c =
     let l = c .before .loop in
-    let s = c .before .before .before .args .text .now in
+    let s = start (c .before) .args .text .now in
     let e : l .i ≡ length s = omega arith in
     let done : allDigits (drop (l .i) s) ≡ true = ap (λ (n : ℕ). allDigits (drop n s)) e ∙ ap allDigits (drop-length s) ∙ all-end in
     sym (cond-itself (ltb (l .greatest) noDigit)) ∙ sym (ap (λ (b : Bool). cond (ltb (l .greatest) noDigit) b false) done) ∙ l .inv .1

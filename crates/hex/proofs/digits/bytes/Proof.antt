@@ -16,6 +16,10 @@ Inv-loop text out₀ i₀ out i = (i ≤ length out₀) × (length out ≡ lengt
 abbrev μ-loop : tie.MeasureT-loop
 μ-loop text out₀ i₀ out i = i
 
+-- where the function was entered
+abbrev start : tie.At-loop Inv-loop μ-loop → tie.Start Inv-loop μ-loop
+start l = l .before .before .before
+
 loop-holds : tie.Need-loop-holds Inv-loop μ-loop
 loop-holds c = let a = c .before .before .args in (search needs, refl, c .before .before .pre, pairs-start (a .text .now) (a .out .now) (c .before .before .pre))
 
@@ -49,7 +53,7 @@ loop-less c = search needs
 loop-again : tie.Need-loop-again Inv-loop μ-loop
 loop-again c =
     let l = c .before .before .before .before .loop in
-    let a = c .before .before .before .before .before .before .before .args in (
+    let a = start (c .before .before .before .before) .args in (
       omega arith,
       simp length-set (l .inv .1),
       l .inv .2,

@@ -15,6 +15,10 @@ Inv-loop bytes from mark i₀ i = foundAt mark bytes i ≡ foundAt mark bytes fr
 abbrev μ-loop : tie.MeasureT-loop
 μ-loop bytes from mark i₀ i = length bytes - i
 
+-- where the function was entered
+abbrev start : tie.At-loop Inv-loop μ-loop → tie.Start Inv-loop μ-loop
+start l = l .before .before .before
+
 past-blocks-requires : tie.Need-past-blocks-requires Inv-loop μ-loop
 past-blocks-requires c κs = search needs
 
@@ -27,7 +31,7 @@ shared-slice-read-if1 c = search needs
 returns : tie.Need-returns Inv-loop μ-loop
 returns c =
     let l = c .before .before .before .loop in
-    let a = c .before .before .before .before .before .before .args in
+    let a = start (c .before .before .before) .args in
     omega (arith, ap length (up-stop (a .mark) (a .bytes .now) (l .i) (c .before .before .loop-test .taken) (c .if1 .taken)), l .inv)
 
 add-i : tie.Need-add-i Inv-loop μ-loop
@@ -39,13 +43,13 @@ loop-less c = search needs
 loop-again : tie.Need-loop-again Inv-loop μ-loop
 loop-again c =
     let l = c .before .before .before .loop in
-    let a = c .before .before .before .before .before .before .args in
+    let a = start (c .before .before .before) .args in
     found-next (a .mark) (a .bytes .now) (l .i) (c .before .before .loop-test .taken) (c .if1 .left) ∙ l .inv
 
 returns-2 : tie.Need-returns-2 Inv-loop μ-loop
 returns-2 c =
     let l = c .before .loop in
-    let a = c .before .before .before .before .args in
+    let a = start (c .before) .args in
     omega (arith, ap length (up-end (a .mark) (a .bytes .now) (l .i) (c .loop-test .left)), l .inv)
 
 pub found-spec : {M : Type 1} → statement M

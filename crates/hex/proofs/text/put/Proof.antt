@@ -16,6 +16,14 @@ Inv-loop bytes out₀ i₀ out i = (i ≤ length bytes) × (length out ≡ lengt
 abbrev μ-loop : tie.MeasureT-loop
 μ-loop bytes out₀ i₀ out i = i
 
+-- where the function was entered
+abbrev start : tie.At-loop Inv-loop μ-loop → tie.Start Inv-loop μ-loop
+start l = l .before .before .before
+
+-- the turn in which a byte was put
+abbrev turn : tie.After-put-byte Inv-loop μ-loop → tie.In-loop Inv-loop μ-loop
+turn p = p .before .before .before
+
 loop-holds : tie.Need-loop-holds Inv-loop μ-loop
 loop-holds c = let a = c .before .before .args in (search needs, refl, c .before .before .pre, text-start (a .bytes .now) (a .out .now) (c .before .before .pre))
 
@@ -36,12 +44,13 @@ loop-less c = search needs
 
 loop-again : tie.Need-loop-again Inv-loop μ-loop
 loop-again c =
-    let l = c .before .before .before .before .before .before .loop in
-    let a = c .before .before .before .before .before .before .before .before .before .args in (
+    let t = turn (c .before .before) in
+    let l = t .before .loop in
+    let a = start (t .before) .args in (
       omega arith,
       search needs,
       l .inv .2,
-      c .before .before .put-byte .ensures ∙ text-step (a .bytes .now) (a .out .now) (l .out) (l .i) (c .before .before .before .before .before .loop-test .taken) (l .inv .0) (l .inv .2) (l .inv .3),
+      c .before .before .put-byte .ensures ∙ text-step (a .bytes .now) (a .out .now) (l .out) (l .i) (t .loop-test .taken) (l .inv .0) (l .inv .2) (l .inv .3),
     )
 
 same-length : tie.Need-same-length Inv-loop μ-loop

@@ -35,23 +35,27 @@ sub-requires c κs =
     rw (moved-is c, leap-is (s .args .leap) (s .fits .leap))
     (omega (arith, s .pre, c .before .before .if1 .left, leap-size (s .args .leap) (s .fits .leap), natAbs-+ (pos (s .args .second .0)) (s .args .offset)))
 
+-- where the function was entered
+abbrev start : tie.After-sub → tie.Start
+start c = c .before .before .before .before .before
+
 -- the scale's second, as both tests read it
 abbrev seconds : tie.Start → ℤ
 seconds s = pos (s .args .second .0) +ℤ s .args .offset -ℤ s .args .leap
 
-seconds-is : (c : tie.After-sub) → toZ w64 (ofZ w64 (c .sub .result)) ≡ seconds (c .before .before .before .before .before)
+seconds-is : (c : tie.After-sub) → toZ w64 (ofZ w64 (c .sub .result)) ≡ seconds (start c)
 seconds-is c =
-    let s = c .before .before .before .before .before in
+    let s = start c in
     got (c .sub .ok) (c .sub .ensures ∙ rw (moved-is (c .before), leap-is (s .args .leap) (s .fits .leap)))
 
-sign : (c : tie.After-is-negative) → c .is-negative .result ≡ ltZ (seconds (c .before .before .before .before .before .before)) (pos 0)
+sign : (c : tie.After-is-negative) → c .is-negative .result ≡ ltZ (seconds (start (c .before))) (pos 0)
 sign c = c .is-negative .ensures ∙ ap (λ (z : ℤ). ltZ z (pos 0)) (seconds-is (c .before))
 
 -- no less than zero: it is its size
-size : (c : tie.After-abs) → seconds (c .before .before .before .before .before .before .before .before) ≡ pos (c .abs .result)
+size : (c : tie.After-abs) → seconds (start (c .before .before .before)) ≡ pos (c .abs .result)
 size c =
     let t = c .before in
-    let z = seconds (t .before .before .before .before .before .before .before) in
+    let z = seconds (start (t .before .before)) in
     let e : z ≡ pos (mag z) = is-pos z (sym (sign (t .before)) ∙ t .if2 .left) in
     e ∙ ap pos (ap natAbs (sym e) ∙ ap natAbs (sym (seconds-is (t .before .before))) ∙ sym (c .abs .ensures))
 
