@@ -69,7 +69,7 @@ pub fn answer_line(b: Bridge, text: &[u8], out: &mut [u8]) -> Answered
     }
     let mut line = [0u8; 71];
     digits::bytes(text, &mut line);
-    let arrival = numbers::bytes::number_at(&line, ARRIVAL_PLACE, ARRIVAL_BYTES);
+    let arrival = numbers_bytes::number_at(&line, ARRIVAL_PLACE, ARRIVAL_BYTES);
     let done = bridge_receive::receive(b, line[PORT_PLACE], &line[FRAME_PLACE..], arrival);
     let next = done.next;
     Answered {

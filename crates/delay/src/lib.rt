@@ -4,9 +4,7 @@ ghost use Prim.Native.Nat.{_≤_};
 ghost use lib.IntN.{natAbs};
 ghost use Rattle.samples.specs.Rate.{neighbourRateOf, steepest};
 ghost use Rattle.delay.specs.Delay.{longestTrip, delayOf, measuredOf, linkDelayOf};
-use numbers::whole;
 use samples::Pair;
-use samples::rate;
 use times::LocalTime;
 use times::local;
 
@@ -35,9 +33,9 @@ pub fn half_trip(rate: i64, trip: u64, turn: u64) -> u64
     requires { ⌜ (natAbs rate ≤ steepest) × (trip ≤ longestTrip) × (turn ≤ longestTrip) ⌝ }
     ensures { λ r. ⌜ r ≡ delayOf rate trip turn ⌝ }
 {
-    let here = rate::advance(rate, whole::from_unsigned(turn));
-    let both = whole::sub(whole::from_unsigned(trip), here);
-    whole::at_least_zero(whole::floor_div(both, WAYS))
+    let here = samples_rate::advance(rate, numbers_whole::from_unsigned(turn));
+    let both = numbers_whole::sub(numbers_whole::from_unsigned(trip), here);
+    numbers_whole::at_least_zero(numbers_whole::floor_div(both, WAYS))
 }
 
 // The measured delay, unless a part of it is too long.
@@ -78,7 +76,7 @@ pub fn link_delay(
                 }
             }
             measured_delay(
-                rate::neighbour_rate(pair, local, p),
+                samples_rate::neighbour_rate(pair, local, p),
                 local::since(p, tx),
                 local::since(local, rx),
             )

@@ -4,7 +4,6 @@ ghost use Prim.Native.Nat.{_≤_};
 ghost use lib.ListN.{length, drop};
 ghost use Rattle.numbers.specs.Table.{parted, joined, Held};
 ghost use Rattle.frame.specs.Frame.{frameLength, widths};
-use numbers::bytes;
 
 // The bytes of a frame.
 pub const FRAME_LENGTH: usize = 64;
@@ -93,7 +92,7 @@ pub fn parts(frame: &[u8]) -> [u64; 24]
         k -= 1;
         let n = table[k];
         at -= n;
-        values[k] = bytes::number_at(frame, at, n);
+        values[k] = numbers_bytes::number_at(frame, at, n);
     }
     values
 }
@@ -110,6 +109,6 @@ pub fn fill(values: [u64; 24], out: &mut [u8])
         k -= 1;
         let n = table[k];
         at -= n;
-        bytes::put_at(out, at, n, values[k]);
+        numbers_bytes::put_at(out, at, n, values[k]);
     }
 }

@@ -1,3 +1,1 @@
 // Whole numbers that the language lacks: signed arithmetic that is exact, and numbers in bytes.
-pub mod bytes;
-pub mod whole;

@@ -8,7 +8,6 @@ use port::OwnClock;
 use port::Preceding;
 use samples::Sample;
 use samples::Samples;
-use samples::kept;
 use times::ErrorTime;
 use times::GrandTime;
 use times::LocalTime;
@@ -44,7 +43,12 @@ pub fn own_clock(clock: OwnClock, count: u8, grand: GrandTime, at: LocalTime) ->
                     local: when,
                     error: ErrorTime(0),
                 };
-                return stored(refusals::DONE, kept::keep(samples, true, sample), count, at);
+                return stored(
+                    refusals::DONE,
+                    samples_kept::keep(samples, true, sample),
+                    count,
+                    at,
+                );
             }
             stored(refusals::NOT_NEXT, samples, count, at)
         }

@@ -14,7 +14,6 @@ use port::Preceding;
 use port::Setting;
 use samples::Pair;
 use samples::Sample;
-use samples::kept;
 use times::LocalTime;
 use times::local;
 
@@ -66,7 +65,7 @@ fn taken(port: Port, f: Fields, hop: u8, p: LocalTime, delay: u64, at: LocalTime
         local: local::earlier_by(p, delay),
         error: error,
     };
-    let kept = kept::keep(samples, same_clock(announcement, precedence), sample);
+    let kept = samples_kept::keep(samples, same_clock(announcement, precedence), sample);
     Port {
         preceding: Preceding::Was(f.count, at),
         announcement: Announcement::Announced(precedence, hop, at),

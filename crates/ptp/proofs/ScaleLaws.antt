@@ -14,14 +14,14 @@ use Rattle.refusals.specs.Refusals.{outOfRange, beyondRange}
 use Rattle.ptp.specs.Scale.{secondsEnd, secondOf, scaledOf, gpsOffset, asGps, gpsOf, asUtc, utcOf, ntpOffset, asNtp, ntpOf, gpsNo, gpsSecond, utcNo, utcSecond, ntpNo, ntpSecond}
 use Rattle.ptp.specs.Demands.{AnswerParts, SecondAnswers, ScaleAnswers, gpsParts, utcParts, ntpParts, fromGps, fromUtc, fromNtp}
 use Rattle.ptp.specs.declared.PtpSecond.{PtpSecond}
-use Rattle.ptp.specs.declared.scales.Scaled.{Scaled}
-use Rattle.ptp.specs.declared.scales.Scaled.the-variants.{Second, Refused}
-use Rattle.ptp.specs.declared.scales.GpsSecond.{GpsSecond}
-use Rattle.ptp.specs.declared.scales.UtcSecond.{UtcSecond}
-use Rattle.ptp.specs.declared.scales.NtpSecond.{NtpSecond}
-use Rattle.ptp.specs.declared.scales.ToGps.the-variants as Gps
-use Rattle.ptp.specs.declared.scales.ToUtc.the-variants as Utc
-use Rattle.ptp.specs.declared.scales.ToNtp.the-variants as Ntp
+use Rattle.ptp.specs.declared.Scaled.{Scaled}
+use Rattle.ptp.specs.declared.Scaled.the-variants.{Second, Refused}
+use Rattle.ptp.specs.declared.GpsSecond.{GpsSecond}
+use Rattle.ptp.specs.declared.UtcSecond.{UtcSecond}
+use Rattle.ptp.specs.declared.NtpSecond.{NtpSecond}
+use Rattle.ptp.specs.declared.ToGps.the-variants as Gps
+use Rattle.ptp.specs.declared.ToUtc.the-variants as Utc
+use Rattle.ptp.specs.declared.ToNtp.the-variants as Ntp
 use Rattle.numbers.proofs.Branches.{if-true, if-false, if-when}
 use Rattle.numbers.proofs.Machine.{sfits, got}
 

@@ -11,12 +11,12 @@ use Rattle.ptp.specs.Scale.{secondsEnd, gpsOffset, ntpOffset, gpsNo, gps
 use Rattle.ptp.specs.declared.PtpTime.{PtpTime}
 use Rattle.ptp.specs.declared.Exported.{Exported}
 use Rattle.ptp.specs.declared.Imported.{Imported}
-use Rattle.ptp.specs.declared.scales.GpsSecond.{GpsSecond}
-use Rattle.ptp.specs.declared.scales.UtcSecond.{UtcSecond}
-use Rattle.ptp.specs.declared.scales.NtpSecond.{NtpSecond}
-use Rattle.ptp.specs.declared.scales.ToGps.{ToGps}
-use Rattle.ptp.specs.declared.scales.ToUtc.{ToUtc}
-use Rattle.ptp.specs.declared.scales.ToNtp.{ToNtp}
+use Rattle.ptp.specs.declared.GpsSecond.{GpsSecond}
+use Rattle.ptp.specs.declared.UtcSecond.{UtcSecond}
+use Rattle.ptp.specs.declared.NtpSecond.{NtpSecond}
+use Rattle.ptp.specs.declared.ToGps.{ToGps}
+use Rattle.ptp.specs.declared.ToUtc.{ToUtc}
+use Rattle.ptp.specs.declared.ToNtp.{ToNtp}
 
 -- ---- timestamps
 

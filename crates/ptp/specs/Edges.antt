@@ -10,12 +10,12 @@ use Rattle.ptp.specs.declared.Exported.{Exported}
 use Rattle.ptp.specs.declared.Exported.the-variants as Exports
 use Rattle.ptp.specs.declared.Imported.{Imported}
 use Rattle.ptp.specs.declared.Imported.the-variants as Imports
-use Rattle.ptp.specs.declared.scales.ToGps.{ToGps}
-use Rattle.ptp.specs.declared.scales.ToGps.the-variants as Gps
-use Rattle.ptp.specs.declared.scales.ToUtc.{ToUtc}
-use Rattle.ptp.specs.declared.scales.ToUtc.the-variants as Utc
-use Rattle.ptp.specs.declared.scales.ToNtp.{ToNtp}
-use Rattle.ptp.specs.declared.scales.ToNtp.the-variants as Ntp
+use Rattle.ptp.specs.declared.ToGps.{ToGps}
+use Rattle.ptp.specs.declared.ToGps.the-variants as Gps
+use Rattle.ptp.specs.declared.ToUtc.{ToUtc}
+use Rattle.ptp.specs.declared.ToUtc.the-variants as Utc
+use Rattle.ptp.specs.declared.ToNtp.{ToNtp}
+use Rattle.ptp.specs.declared.ToNtp.the-variants as Ntp
 
 -- what the definitions give, and what the request says
 pub record Edge (A : Type 0) : Type 0 where

@@ -6,17 +6,17 @@ use lib.Dec.{ltb}
 use lib.IntN.{ℤ, pos, negsuc, _+ℤ_, _-ℤ_}
 use Rattle.refusals.specs.Refusals.{done, outOfRange, beyondRange}
 use Rattle.ptp.specs.declared.PtpSecond.{PtpSecond}
-use Rattle.ptp.specs.declared.scales.Scaled.{Scaled}
-use Rattle.ptp.specs.declared.scales.Scaled.the-variants.{Second, Refused}
-use Rattle.ptp.specs.declared.scales.GpsSecond.{GpsSecond}
-use Rattle.ptp.specs.declared.scales.UtcSecond.{UtcSecond}
-use Rattle.ptp.specs.declared.scales.NtpSecond.{NtpSecond}
-use Rattle.ptp.specs.declared.scales.ToGps.{ToGps}
-use Rattle.ptp.specs.declared.scales.ToGps.the-variants as Gps
-use Rattle.ptp.specs.declared.scales.ToUtc.{ToUtc}
-use Rattle.ptp.specs.declared.scales.ToUtc.the-variants as Utc
-use Rattle.ptp.specs.declared.scales.ToNtp.{ToNtp}
-use Rattle.ptp.specs.declared.scales.ToNtp.the-variants as Ntp
+use Rattle.ptp.specs.declared.Scaled.{Scaled}
+use Rattle.ptp.specs.declared.Scaled.the-variants.{Second, Refused}
+use Rattle.ptp.specs.declared.GpsSecond.{GpsSecond}
+use Rattle.ptp.specs.declared.UtcSecond.{UtcSecond}
+use Rattle.ptp.specs.declared.NtpSecond.{NtpSecond}
+use Rattle.ptp.specs.declared.ToGps.{ToGps}
+use Rattle.ptp.specs.declared.ToGps.the-variants as Gps
+use Rattle.ptp.specs.declared.ToUtc.{ToUtc}
+use Rattle.ptp.specs.declared.ToUtc.the-variants as Utc
+use Rattle.ptp.specs.declared.ToNtp.{ToNtp}
+use Rattle.ptp.specs.declared.ToNtp.the-variants as Ntp
 
 -- where the seconds of every scale end: they have 48 bits
 abbrev pub secondsEnd : ℕ

@@ -1,13 +1,5 @@
-// Times for a PTP analyser: the IEEE 1588 timestamp of a grand time, the grand time of a timestamp, and PTP seconds on other scales.
-pub mod scales;
-
-ghost use mathlib.Core.Path.{_≡_};
-ghost use Prim.Native.Nat.{_<_};
-ghost use Rattle.times.specs.Times.{second};
-ghost use Rattle.ptp.specs.Timestamp.{billion, nanosecondOf, fractionOf, exportOf, importOf, exportNo, exportTime, importNo, importTime};
-ghost use Rattle.ptp.specs.Promises.{AnswerPromise};
+// Times for a PTP analyser: the IEEE 1588 timestamp of a grand time, the grand time of a timestamp, and PTP seconds on other scales. The types, definitions and theorems stand here; the calls' code is above.
 use times::GrandTime;
-use times::grand;
 
 // A second of the PTP scale, 0 to 2^48 - 1.
 pub struct PtpSecond(pub u64);
@@ -27,53 +19,35 @@ pub enum Imported {
     Refused(u8),
 }
 
-// The nanoseconds of a second.
-const BILLION: u64 = 1_000_000_000;
+// A second of the GPS scale, 0 to 2^48 - 1.
+pub struct GpsSecond(pub u64);
 
-// So many nanoseconds are just so many U: 10^9 and 2^40, each divided by the 2^9 that both have.
-const COMMON_NANOSECONDS: u64 = 1_953_125;
+// A second of the UTC scale, 0 to 2^48 - 1.
+pub struct UtcSecond(pub u64);
 
-const COMMON_UNITS: u64 = 0x8000_0000;
+// A second of the NTP scale, 0 to 2^48 - 1.
+pub struct NtpSecond(pub u64);
 
-// The nanosecond that a fraction lies in.
-fn nanosecond(fraction: u64) -> u64
-    requires { ⌜ fraction < second ⌝ }
-    ensures { λ r. ⌜ r ≡ nanosecondOf fraction ⌝ }
-{
-    fraction * COMMON_NANOSECONDS / COMMON_UNITS
+// A PTP second on the GPS scale, or a refusal.
+pub enum ToGps {
+    Second(GpsSecond),
+    Refused(u8),
 }
 
-// The least fraction that lies in a nanosecond.
-fn fraction(nanosecond: u64) -> u64
-    requires { ⌜ nanosecond < billion ⌝ }
-    ensures { λ r. ⌜ r ≡ fractionOf nanosecond ⌝ }
-{
-    (nanosecond * COMMON_UNITS + (COMMON_NANOSECONDS - 1)) / COMMON_NANOSECONDS
+// A PTP second on the UTC scale, or a refusal.
+pub enum ToUtc {
+    Second(UtcSecond),
+    Refused(u8),
 }
 
-// Export: the PTP time of a grand time, rounded down to the nanosecond.
-pub fn export(time: GrandTime) -> Exported
-    ensures { λ r. ⌜ AnswerPromise exportNo exportTime (exportOf time) r ⌝ }
-{
-    if grand::SECOND <= time.0 {
-        return Exported::Refused(refusals::OUT_OF_RANGE);
-    }
-    if grand::SECOND <= time.1 {
-        return Exported::Refused(refusals::OUT_OF_RANGE);
-    }
-    Exported::At(PtpTime(PtpSecond(time.0), nanosecond(time.1)))
+// A PTP second on the NTP scale, or a refusal.
+pub enum ToNtp {
+    Second(NtpSecond),
+    Refused(u8),
 }
 
-// Import: the least grand time whose export is that PTP time.
-pub fn import(time: PtpTime) -> Imported
-    ensures { λ r. ⌜ AnswerPromise importNo importTime (importOf time) r ⌝ }
-{
-    let second = time.0;
-    if grand::SECOND <= second.0 {
-        return Imported::Refused(refusals::OUT_OF_RANGE);
-    }
-    if BILLION <= time.1 {
-        return Imported::Refused(refusals::OUT_OF_RANGE);
-    }
-    Imported::At(GrandTime(second.0, fraction(time.1)))
+// A second of some scale as a number, or a refusal.
+pub enum Scaled {
+    Second(u64),
+    Refused(u8),
 }

@@ -2,10 +2,8 @@
 ghost use mathlib.Core.Path.{_≡_};
 ghost use Rattle.samples.specs.Keep.{endsOf, LawfulSamples};
 ghost use Rattle.recorder.specs.Stamp.{distanceOf, stampThrough};
-use numbers::whole;
 use samples::Ends;
 use samples::Samples;
-use samples::kept;
 use times::GrandTime;
 use times::LocalTime;
 use times::Moment;
@@ -35,9 +33,9 @@ fn distance(latch: LocalTime, newer: LocalTime) -> i64
 {
     let after = local::since(latch, newer);
     if after < HALF_WAY {
-        return whole::from_unsigned(after);
+        return numbers_whole::from_unsigned(after);
     }
-    whole::difference(after, local::CIRCLE)
+    numbers_whole::difference(after, local::CIRCLE)
 }
 
 // The stamp of a latch, read off the line through the ends of a clock's samples.
@@ -45,11 +43,11 @@ pub fn through(samples: Samples, latch: LocalTime) -> Stamped
     requires { ⌜ LawfulSamples samples ⌝ }
     ensures { λ r. ⌜ r ≡ stampThrough (endsOf samples) latch ⌝ }
 {
-    match kept::ends(samples) {
+    match samples_kept::ends(samples) {
         Ends::Few => Stamped::Refused(refusals::FEW_SAMPLES),
         Ends::Both(oldest, newest) => {
             let away = distance(latch, newest.local);
-            if LONGEST_REACH < whole::abs(away) {
+            if LONGEST_REACH < numbers_whole::abs(away) {
                 return Stamped::Refused(TOO_FAR);
             }
             match timeline::reading(oldest, newest, away, NOTHING_MORE) {

@@ -18,7 +18,6 @@ use forms::value;
 use frame::Fields;
 use frame::Mac;
 use frame::Reading;
-use numbers::bytes;
 use times::ErrorTime;
 use times::GrandTime;
 use times::LocalTime;
@@ -59,9 +58,9 @@ pub fn precedence(b: [u8; 256]) -> Precedence
     Precedence {
         priority1: b[PRIORITY1],
         source: b[SOURCE],
-        variance: bytes::number_at(&b, VARIANCE, VARIANCE_BYTES) as u16,
+        variance: numbers_bytes::number_at(&b, VARIANCE, VARIANCE_BYTES) as u16,
         priority2: b[PRIORITY2],
-        clock: bytes::number_at(&b, CLOCK, CLOCK_BYTES),
+        clock: numbers_bytes::number_at(&b, CLOCK, CLOCK_BYTES),
     }
 }
 
@@ -69,7 +68,7 @@ pub fn precedence(b: [u8; 256]) -> Precedence
 fn error(b: [u8; 256]) -> ErrorTime
     ensures { λ r. ⌜ r ≡ errorIn b ⌝ }
 {
-    ErrorTime(bytes::number_at(&b, ERROR, ERROR_BYTES) as u32)
+    ErrorTime(numbers_bytes::number_at(&b, ERROR, ERROR_BYTES) as u32)
 }
 
 // The fields of a frame to be written.

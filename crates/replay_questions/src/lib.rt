@@ -38,7 +38,7 @@ fn bits(x: f64, out: &mut [u8]) -> usize
     ensures { λ r. ⌜ Prints (lineWith 0 (numberBytes 8 (toBits binary64 x))) r (now (out .entry)) (now (out .exit)) ⌝ }
 {
     let mut b = [0u8; 8];
-    numbers::bytes::put(&mut b, f64::to_bits(x));
+    numbers_bytes::put(&mut b, f64::to_bits(x));
     columns::with_bytes(out, refusals::DONE, &b)
 }
 

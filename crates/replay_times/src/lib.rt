@@ -12,16 +12,13 @@ use columns::CHARACTER;
 use columns::NEWLINE;
 use columns::SPACE;
 use forms::Form;
-use numbers::bytes;
-use numbers::whole;
 use ptp::Exported;
 use ptp::Imported;
 use ptp::PtpSecond;
 use ptp::PtpTime;
-use ptp::scales;
-use ptp::scales::ToGps;
-use ptp::scales::ToNtp;
-use ptp::scales::ToUtc;
+use ptp::ToGps;
+use ptp::ToNtp;
+use ptp::ToUtc;
 use times::GrandTime;
 
 // The bytes of leap seconds, and where they stand in the line's bytes.
@@ -43,11 +40,11 @@ const NANOSECOND: usize = 4;
 fn leap(b: [u8; 256]) -> i16
     ensures { λ r. ⌜ r ≡ leapIn b ⌝ }
 {
-    let bits = bytes::number_at(&b, LEAP_AT, LEAP_BYTES);
+    let bits = numbers_bytes::number_at(&b, LEAP_AT, LEAP_BYTES);
     if bits < LEAP_BELOW_ZERO {
         return bits as i16;
     }
-    whole::difference(bits, LEAP_VALUES) as i16
+    numbers_whole::difference(bits, LEAP_VALUES) as i16
 }
 
 // Prints a PTP time after the answer 0.
@@ -75,7 +72,7 @@ fn export(form: Form, out: &mut [u8]) -> usize
     requires { ⌜ longestAnswer ≤ length (now out) ⌝ }
     ensures { λ r. ⌜ Prints (exportText (exportOf (record { 0 = numberIn form 0; 1 = numberIn form 1 }))) r (now (out .entry)) (now (out .exit)) ⌝ }
 {
-    match ptp::export(GrandTime(form.numbers[0], form.numbers[1])) {
+    match ptp_timestamp::export(GrandTime(form.numbers[0], form.numbers[1])) {
         Exported::At(time) => timestamp(time, out),
         Exported::Refused(no) => columns::one(out, no),
     }
@@ -86,7 +83,7 @@ fn import(form: Form, out: &mut [u8]) -> usize
     requires { ⌜ longestAnswer ≤ length (now out) ⌝ }
     ensures { λ r. ⌜ Prints (importText (importOf (record { 0 = secondIn form; 1 = numberIn form 1 }))) r (now (out .entry)) (now (out .exit)) ⌝ }
 {
-    match ptp::import(PtpTime(PtpSecond(form.numbers[0]), form.numbers[1])) {
+    match ptp_timestamp::import(PtpTime(PtpSecond(form.numbers[0]), form.numbers[1])) {
         Imported::At(time) => columns::with_time(out, refusals::DONE, time.0, time.1),
         Imported::Refused(no) => columns::one(out, no),
     }
@@ -109,7 +106,7 @@ fn gps(form: Form, out: &mut [u8]) -> usize
     requires { ⌜ longestAnswer ≤ length (now out) ⌝ }
     ensures { λ r. ⌜ Prints (gpsText (gpsOf (secondIn form))) r (now (out .entry)) (now (out .exit)) ⌝ }
 {
-    match scales::gps(PtpSecond(form.numbers[0])) {
+    match ptp_scales::gps(PtpSecond(form.numbers[0])) {
         ToGps::Second(gps_second) => second(gps_second.0, out),
         ToGps::Refused(no) => columns::one(out, no),
     }
@@ -120,7 +117,7 @@ fn utc(form: Form, out: &mut [u8]) -> usize
     requires { ⌜ longestAnswer ≤ length (now out) ⌝ }
     ensures { λ r. ⌜ Prints (utcText (utcOf (secondIn form) (leapIn (form .bytes)))) r (now (out .entry)) (now (out .exit)) ⌝ }
 {
-    match scales::utc(PtpSecond(form.numbers[0]), leap(form.bytes)) {
+    match ptp_scales::utc(PtpSecond(form.numbers[0]), leap(form.bytes)) {
         ToUtc::Second(utc_second) => second(utc_second.0, out),
         ToUtc::Refused(no) => columns::one(out, no),
     }
@@ -131,7 +128,7 @@ fn ntp(form: Form, out: &mut [u8]) -> usize
     requires { ⌜ longestAnswer ≤ length (now out) ⌝ }
     ensures { λ r. ⌜ Prints (ntpText (ntpOf (secondIn form) (leapIn (form .bytes)))) r (now (out .entry)) (now (out .exit)) ⌝ }
 {
-    match scales::ntp(PtpSecond(form.numbers[0]), leap(form.bytes)) {
+    match ptp_scales::ntp(PtpSecond(form.numbers[0]), leap(form.bytes)) {
         ToNtp::Second(ntp_second) => second(ntp_second.0, out),
         ToNtp::Refused(no) => columns::one(out, no),
     }

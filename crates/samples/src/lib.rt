@@ -1,6 +1,4 @@
 // Samples: a grand time and the local time that it belongs to. What lies between two of them, the rate of one clock on another, and which are kept.
-pub mod kept;
-pub mod rate;
 
 use times::ErrorTime;
 use times::GrandTime;

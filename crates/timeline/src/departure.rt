@@ -4,10 +4,8 @@ ghost use Prim.Native.Nat.{_<_};
 ghost use Rattle.samples.specs.Keep.{LawfulSamples};
 ghost use Rattle.timeline.specs.Sent.{longestElapsed, sentOf};
 use crate::Sent;
-use numbers::whole;
 use samples::Ends;
 use samples::Samples;
-use samples::kept;
 use times::LocalTime;
 use times::Moment;
 use times::local;
@@ -21,7 +19,7 @@ pub fn sent(samples: Samples, t: LocalTime, back: u64) -> Sent
     requires { ⌜ back < longestElapsed ⌝ }
     ensures { λ r. ⌜ r ≡ sentOf samples t back ⌝ }
 {
-    match kept::ends(samples) {
+    match samples_kept::ends(samples) {
         Ends::Few => Sent::Few,
         Ends::Both(oldest, newest) => {
             let elapsed = local::since(t, newest.local);
@@ -29,7 +27,12 @@ pub fn sent(samples: Samples, t: LocalTime, back: u64) -> Sent
                 return Sent::Late;
             }
             let error = newest.error;
-            match crate::reading(oldest, newest, whole::difference(elapsed, back), back) {
+            match crate::reading(
+                oldest,
+                newest,
+                numbers_whole::difference(elapsed, back),
+                back,
+            ) {
                 Moment::At(time) => Sent::At(time, error),
                 Moment::Beyond => Sent::Beyond,
             }

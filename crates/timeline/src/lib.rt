@@ -4,10 +4,7 @@ ghost use lib.IntN.{pos, _+ℤ_};
 ghost use Rattle.times.specs.Times.{momentOf};
 ghost use Rattle.samples.specs.Keep.{LawfulEnds};
 ghost use Rattle.timeline.specs.Line.{InReach, readingAt};
-use numbers::whole;
 use samples::Sample;
-use samples::kept;
-use samples::rate;
 use times::ErrorTime;
 use times::GrandTime;
 use times::Moment;
@@ -37,9 +34,9 @@ pub fn reading(oldest: Sample, newest: Sample, x: i64, more: u64) -> Moment
     requires { ⌜ InReach x more ⌝ }
     ensures { λ r. ⌜ r ≡ momentOf (readingAt oldest newest x +ℤ pos more) ⌝ }
 {
-    let advance = rate::advance(kept::rate_between(oldest, newest), x);
+    let advance = samples_rate::advance(samples_kept::rate_between(oldest, newest), x);
     grand::moved(
         newest.grand,
-        whole::add(advance, whole::from_unsigned(more)),
+        numbers_whole::add(advance, numbers_whole::from_unsigned(more)),
     )
 }

@@ -6,10 +6,8 @@ ghost use Rattle.samples.specs.Rate.{steepest};
 ghost use Rattle.samples.specs.Keep.{LawfulSamples};
 ghost use Rattle.timeline.specs.Drift.{ppmOf, driftOf};
 use crate::Drift;
-use numbers::whole;
 use samples::Ends;
 use samples::Samples;
-use samples::kept;
 
 // A million, and the parts in which a rate counts as a float.
 const MILLION: i64 = 1000000;
@@ -21,7 +19,7 @@ pub fn parts_per_million(rate: i64) -> f64
     requires { ⌜ natAbs rate ≤ steepest ⌝ }
     ensures { λ r. ⌜ r ≡ ppmOf rate ⌝ }
 {
-    whole::mul(rate, MILLION) as f64 / PARTS
+    numbers_whole::mul(rate, MILLION) as f64 / PARTS
 }
 
 // The drift of a clock with these samples.
@@ -29,10 +27,10 @@ pub fn drift(samples: Samples) -> Drift
     requires { ⌜ LawfulSamples samples ⌝ }
     ensures { λ r. ⌜ r ≡ driftOf samples ⌝ }
 {
-    match kept::ends(samples) {
+    match samples_kept::ends(samples) {
         Ends::Few => Drift::NoReading,
         Ends::Both(oldest, newest) => {
-            Drift::PartsPerMillion(parts_per_million(kept::rate_between(oldest, newest)))
+            Drift::PartsPerMillion(parts_per_million(samples_kept::rate_between(oldest, newest)))
         }
     }
 }

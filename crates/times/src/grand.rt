@@ -6,7 +6,6 @@ ghost use Rattle.times.specs.Times.{second, units, InRange, momentOf, ri
 use crate::GrandTime;
 use crate::Moment;
 use crate::Rise;
-use numbers::whole;
 
 // The units of a second, and where the seconds of grand time end.
 pub const SECOND: u64 = 0x100_0000_0000;
@@ -49,8 +48,8 @@ pub fn moved(g: GrandTime, x: i64) -> Moment
     requires { ⌜ natAbs x < second ⌝ }
     ensures { λ r. ⌜ r ≡ momentOf (pos (units g) +ℤ x) ⌝ }
 {
-    let n = whole::abs(x);
-    if whole::is_negative(x) {
+    let n = numbers_whole::abs(x);
+    if numbers_whole::is_negative(x) {
         earlier(g, n)
     } else {
         later(g, n)
