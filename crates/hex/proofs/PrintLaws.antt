@@ -4,7 +4,7 @@ use Prim.Native.Nat.{ℕ, zero, suc, _+_, _*_, _-_, _/_, _%_, _<_, _≤_}
 use mathlib.Core.List.{List, [], _∷_, _++_, append-nil, append-assoc}
 use native.Mathlib.Numerals.{add-one}
 use native.Mathlib.Omega.{arith}
-use lib.ListN.{length, take, drop, getD, set, length-append}
+use lib.ListN.{length, take, drop, getD, length-append}
 use lib.Seq.{drop-cons, length-take-le, take-length, drop-length, sets-eq, take-append-le, take-take, drop-at}
 use Rattle.hex.specs.Print.{capitalOf, textOf, withByte}
 

@@ -1,7 +1,7 @@
 -- What a turn promises: the bytes that it takes, what they print, and the session that they leave.
 use mathlib.Core.Path.{_≡_}
 use mathlib.Core.List.{List}
-use Prim.Native.Nat.{ℕ, _-_, _<_, _≤_}
+use Prim.Native.Nat.{ℕ, _<_, _≤_}
 use lib.ListN.{length, take}
 use Rattle.bridge.specs.State.{Lawful}
 use Rattle.session.specs.declared.Session.{Session}

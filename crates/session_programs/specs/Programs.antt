@@ -1,7 +1,7 @@
 -- The programs: what each answers to a line, and its bridge before the first.
 use mathlib.Core.Bool.{Bool, false}
 use mathlib.Core.List.{List}
-use Prim.Native.Nat.{ℕ, zero, suc, _-_}
+use Prim.Native.Nat.{ℕ, zero, suc}
 use Rattle.bridge.specs.Setup.{noBridge}
 use Rattle.bridge.specs.declared.Bridge.{Bridge}
 use Rattle.answer.specs.Answer.{Answer}

@@ -2,7 +2,7 @@
 use mathlib.Core.Path.{_≡_, sym, _∙_}
 use Prim.Native.Nat.{ℕ, _+_, _-_, _*_, _≤_}
 use native.Mathlib.Omega.{arith}
-use lib.IntN.{ℤ, pos, negℤ, natAbs, _-ℤ_}
+use lib.IntN.{pos, negℤ, natAbs, _-ℤ_}
 use Rattle.samples.specs.Keep.{spreadOf}
 use Rattle.samples.specs.declared.Sample.{Sample}
 use Rattle.timeline.specs.Line.{lineAt, offOf}

@@ -5,7 +5,7 @@ use native.Mathlib.Nat.{add-mod, add-mod-right, mod-lt, mod-eq-of-lt, mod-eq-sub
 use native.Mathlib.Decide.{decLe}
 use native.Mathlib.Omega.{arith}
 use borrow.Author.Tests.{lt-ltb, le-ltb, ltb-true, ltb-false}
-use lib.Dec.{lit<, ltb}
+use lib.Dec.{ltb}
 use lib.IntN.{ℤ, pos, negsuc, natAbs, _-ℤ_, pos-ne-negsuc}
 use Rattle.times.specs.Times.{circle, second, grandEnd, aroundOf, sinceOf, units, grandOf, InRange, momentOf, counts, nextCount}
 use Rattle.times.specs.declared.LocalTime.{LocalTime}

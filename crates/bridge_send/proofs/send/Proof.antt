@@ -1,21 +1,18 @@
 -- By the refusals over numbers; else by what the port sends for the chosen clock.
 use borrow.Author.Needs.{needs}
 use native.Mathlib.Omega.{arith}
-use mathlib.Core.Path.{_≡_, refl, sym, ap, _∙_, subst}
+use mathlib.Core.Path.{_≡_, sym, ap, _∙_, subst}
 use mathlib.Core.Logic.{⊎-elim}
 use Prim.Native.Nat.{ℕ, _-_, _<_, _≤_}
 use lib.ListN.{length}
 use Rattle.samples.specs.Keep.{LawfulSamples}
-use Rattle.samples.specs.declared.Samples.{Samples}
 use Rattle.choice.specs.Choose.{numberOf}
 use Rattle.choice.specs.Rank.{Ranks}
-use Rattle.choice.specs.declared.Candidate.{Candidate}
 use Rattle.frame.specs.Frame.{frameLength}
-use Rattle.port.specs.Send.{sendingOf, sendingDone, sendingBytes}
+use Rattle.port.specs.Send.{sendingDone, sendingBytes}
 use Rattle.port.specs.declared.Sending.{Sending}
 use Rattle.bridge.specs.Table.{portAt, samplesAt}
 use Rattle.bridge.specs.Chosen.{chosenOf}
-use Rattle.bridge.specs.Send.{sendingAt}
 use Rattle.choice.proofs.RankLaws.{rank-candidate}
 use Rattle.bridge.proofs.CheckLaws.{Ready, send-ready}
 use Rattle.bridge.proofs.TableLaws.{samples-own, samples-port, samples-lawful}

@@ -1,5 +1,5 @@
 -- By the announcement: none leaves the rank as it is, and a clock's is compared with it.
-use mathlib.Core.Path.{sym, ap, _∙_}
+use mathlib.Core.Path.{ap, _∙_}
 use native.Mathlib.Omega.{arith}
 use borrow.Author.Needs.{needs}
 use Rattle.choice.specs.Choose.{candidateOf}

@@ -1,7 +1,5 @@
 -- No bytes, or some.
-use mathlib.Core.Path.{ap}
 use native.Mathlib.Omega.{arith}
-use lib.ListN.{length}
 use Rattle.hex.proofs.PrintLaws.{length-text}
 use Rattle.columns.specs.Columns.{columnText}
 use Rattle.columns.proofs.ColumnLaws.{bytes-none, bytes-some}
