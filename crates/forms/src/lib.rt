@@ -13,11 +13,12 @@ const FIELDS: usize = 16;
 
 const ROOM: usize = 256;
 
-// What the fields of a line say: each field's number, or how many bytes it has; whether it is its kind's mark; and the bytes of all, one after the other.
+// What the fields of a line say: whether each is its kind's mark; its number, or how many bytes it has; and the bytes of all, one after the other.
+// The order of the parts is measured: with the marks behind the numbers every line costs one copy more (docs/DECISIONS.md, Copies).
 pub struct Form {
     pub good: bool,
-    pub numbers: [u64; 16],
     pub marked: [bool; 16],
+    pub numbers: [u64; 16],
     pub bytes: [u8; 256],
 }
 
