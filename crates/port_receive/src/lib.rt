@@ -94,8 +94,8 @@ fn followed(
     let there = f.local;
     let tx = f.tx;
     let rx = f.rx;
-    let by = setting.delay;
-    match delay::link_delay(by, pair, there, p, tx, rx) {
+    let delay_setting = setting.delay;
+    match delay::link_delay(delay_setting, pair, there, p, tx, rx) {
         Delay::TooLong => refused(port, refusals::DELAY_TOO_LONG, f.count, at),
         Delay::Is(delay) => PortDone {
             answer: refusals::DONE,
