@@ -35,7 +35,7 @@ use Rattle.answer.specs.Answer.{Answer, says, refusedLine, doneSays}
 use Rattle.replay_grammar.specs.Row.{letterS, letterL, letterO, letterR, letterA, letterC, letterT, letterD, letterE}
 use Rattle.replay_grammar.specs.Line.{mayBeLine, letterOf, formIn}
 use Rattle.replay_frames.specs.Frames.{untouched, plainText}
-use Rattle.replay_calls.specs.Argument.{setupIn}
+use Rattle.replay_setup.specs.Argument.{setupIn}
 
 -- ---- the calls that change the state
 

@@ -14,7 +14,7 @@ ghost use Rattle.bridge.specs.Age.{ageOf};
 ghost use Rattle.answer.specs.Answer.{doneSays, Says};
 ghost use Rattle.forms.specs.Value.{byteIn, sizeIn};
 ghost use Rattle.replay_frames.specs.Frames.{untouched};
-ghost use Rattle.replay_calls.specs.Argument.{setupIn};
+ghost use Rattle.replay_setup.specs.Argument.{setupIn};
 ghost use Rattle.replay_calls.specs.Answer.{linkText, linkedSays, sendSays};
 use answer::Answered;
 use bridge::Bridge;

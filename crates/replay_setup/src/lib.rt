@@ -2,7 +2,7 @@
 ghost use mathlib.Core.Path.{_≡_};
 ghost use Prim.Native.Nat.{_<_};
 ghost use Rattle.forms.specs.Form.{mostFields};
-ghost use Rattle.replay_calls.specs.Argument.{settingIn, settingsIn, setupIn};
+ghost use Rattle.replay_setup.specs.Argument.{settingIn, settingsIn, setupIn};
 use bridge::Setup;
 use delay::DelaySetting;
 use forms::Form;

@@ -1,1 +1,3 @@
+pub mod FedLaws
+pub mod LineLaws
 pub mod TwoReads

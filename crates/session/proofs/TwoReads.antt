@@ -9,12 +9,12 @@ use lib.Seq.{take-all, take-take}
 use Rattle.bridge.specs.declared.Bridge.{Bridge}
 use Rattle.answer.specs.Answer.{Answer}
 use Rattle.session_programs.specs.Programs.{answerBy}
-use Rattle.session_lines.specs.Lines.{keptBytes, part, Fed, saying, fedOf}
+use Rattle.session.specs.Lines.{keptBytes, part, Fed, saying, fedOf}
 use Rattle.session.specs.Session.{lineOf, Ready, Leaves, Turned}
 use Rattle.hex.specs.Character.{newline}
 use Rattle.session.specs.declared.Progress.{Progress}
 use Rattle.session.specs.declared.Session.{Session}
-use Rattle.session_lines.proofs.FedLaws.{parts, both-ways, fed-parts, cut-twice, kept-answers}
+use Rattle.session.proofs.FedLaws.{parts, both-ways, fed-parts, cut-twice, kept-answers}
 
 -- two outcomes of which the same is kept
 abbrev Same : Fed → Fed → Type 0

@@ -6,7 +6,7 @@ use lib.ListN.{length, take}
 use Rattle.bridge.specs.State.{Lawful}
 use Rattle.session.specs.declared.Session.{Session}
 use Rattle.session.specs.declared.Progress.{Progress}
-use Rattle.session_lines.specs.Lines.{keptBytes, part, Fed, fedOf, Within}
+use Rattle.session.specs.Lines.{keptBytes, part, Fed, fedOf, Within}
 
 -- the line as far as it is kept
 abbrev pub lineOf : Session → List ℕ

@@ -1,4 +1,6 @@
 // Lines one after the other, whatever reads cut them: each is answered by a program, and the start of one that was cut off is kept.
+pub mod lines;
+
 ghost use mathlib.Core.Path.{_≡_};
 ghost use mathlib.Core.List.{[]};
 ghost use Prim.Native.Nat.{_≤_};
@@ -6,11 +8,11 @@ ghost use lib.ListN.{length};
 ghost use Rattle.columns.specs.Columns.{longestAnswer};
 ghost use Rattle.session_programs.specs.Programs.{startBy};
 ghost use Rattle.session.specs.Session.{lineOf, Ready, Turned};
+use crate::lines::NEWLINE;
+use crate::lines::kept;
+use crate::lines::whole_lines;
 use bridge::Bridge;
 use hex::search;
-use session_lines::NEWLINE;
-use session_lines::kept;
-use session_lines::whole_lines;
 use session_programs::first_bridge;
 
 // What is kept from read to read: the bridge, and the line as far as it is read.

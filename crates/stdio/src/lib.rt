@@ -2,7 +2,7 @@
 ghost use Prim.Native.Nat.{_≤_};
 ghost use lib.ListN.{length};
 ghost use Rattle.columns.specs.Columns.{longestAnswer};
-ghost use Rattle.session_lines.specs.Lines.{fedOf};
+ghost use Rattle.session.specs.Lines.{fedOf};
 ghost use Rattle.session.specs.Session.{lineOf, Ready, Leaves};
 use libc::STDIN_FILENO;
 use libc::STDOUT_FILENO;

@@ -1,6 +1,6 @@
 -- The parts of the setup, one by one.
 use Rattle.forms.specs.Value.{flagIn}
-use Rattle.replay_calls.specs.Argument.{setupIn}
+use Rattle.replay_setup.specs.Argument.{setupIn}
 use borrow.Author.Needs.{needs}
 use Rattle.replay_setup.proofs.given.Statement.{statement}
 use Rattle.replay_setup.proofs.given.Tie as tie

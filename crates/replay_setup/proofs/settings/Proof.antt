@@ -1,6 +1,6 @@
 -- Field by field.
 use mathlib.Core.List.{[], _∷_}
-use Rattle.replay_calls.specs.Argument.{settingsIn}
+use Rattle.replay_setup.specs.Argument.{settingsIn}
 use borrow.Author.Needs.{needs}
 use Rattle.replay_setup.proofs.settings.Statement.{statement}
 use Rattle.replay_setup.proofs.settings.Tie as tie

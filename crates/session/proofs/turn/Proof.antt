@@ -6,12 +6,12 @@ use native.Mathlib.Omega.{arith}
 use borrow.Author.Needs.{needs}
 use lib.ListN.{length, take, length-take}
 use lib.Seq.{length-take-le}
-use Rattle.session_lines.specs.Lines.{keptBytes, part, Fed, left, fedOf}
+use Rattle.session.specs.Lines.{keptBytes, part, Fed, left, fedOf}
 use Rattle.session.specs.Session.{lineOf, Leaves}
 use Rattle.session.specs.declared.Session.{Session}
 use Rattle.hex.specs.Character.{newline as newlineByte}
 use Rattle.hex.proofs.SearchLaws.{found-within}
-use Rattle.session_lines.proofs.FedLaws.{parts, kept-empty, rest-fed}
+use Rattle.session.proofs.FedLaws.{parts, kept-empty, rest-fed}
 use Rattle.session.proofs.TwoReads.{two-reads}
 use Rattle.session.proofs.turn.Statement.{statement}
 use Rattle.session.proofs.turn.Tie as tie

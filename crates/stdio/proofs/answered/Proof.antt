@@ -5,7 +5,7 @@ use native.Mathlib.Omega.{arith}
 use borrow.Author.Needs.{needs}
 use lib.ListN.{length}
 use lib.Seq.{length-take-le}
-use Rattle.session_lines.specs.Lines.{part, fedOf}
+use Rattle.session.specs.Lines.{part, fedOf}
 use Rattle.session.specs.Session.{lineOf, Ready, Leaves}
 use Rattle.session.proofs.TwoReads.{turns-none, turns-on, turns-all}
 use Rattle.stdio.proofs.answered.Statement.{statement}

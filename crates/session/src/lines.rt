@@ -4,7 +4,7 @@ ghost use Prim.Native.Nat.{_+_, _≤_};
 ghost use lib.ListN.{length, take};
 ghost use Rattle.bridge.specs.State.{Lawful};
 ghost use Rattle.columns.specs.Columns.{longestAnswer};
-ghost use Rattle.session_lines.specs.Lines.{keptBytes, part, lineEnd, ended, fedOf, keptText, shownOf, Ends, Within};
+ghost use Rattle.session.specs.Lines.{keptBytes, part, lineEnd, ended, fedOf, keptText, shownOf, Ends, Within};
 use bridge::Bridge;
 use columns::LONGEST_ANSWER;
 use hex::search;

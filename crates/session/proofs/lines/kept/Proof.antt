@@ -6,10 +6,10 @@ use borrow.Author.Needs.{needs}
 use borrow.Author.Tests.{ltb-true, ltb-false}
 use lib.ListN.{length, take, drop, length-set}
 use lib.Seq.{length-take-le}
-use Rattle.session_lines.specs.Lines.{keptBytes, keptText}
-use Rattle.session_lines.proofs.FedLaws.{kept-next, kept-full, kept-whole}
-use Rattle.session_lines.proofs.kept.Statement.{statement}
-use Rattle.session_lines.proofs.kept.Tie as tie
+use Rattle.session.specs.Lines.{keptBytes, keptText}
+use Rattle.session.proofs.FedLaws.{kept-next, kept-full, kept-whole}
+use Rattle.session.proofs.lines.kept.Statement.{statement}
+use Rattle.session.proofs.lines.kept.Tie as tie
 
 abbrev Inv-loop : tie.InvT-loop
 Inv-loop text₀ len more n₀ i₀ text n i =

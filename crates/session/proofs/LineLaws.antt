@@ -16,8 +16,8 @@ use Rattle.bridge.specs.declared.Bridge.{Bridge}
 use Rattle.columns.specs.Columns.{longestAnswer, Prints}
 use Rattle.answer.specs.Answer.{Answer}
 use Rattle.session_programs.specs.Programs.{answerBy}
-use Rattle.session_lines.specs.Lines.{part, lineEnd, Fed, left, saying, ended, fedOf, shownOf, Ends}
-use Rattle.session_lines.proofs.FedLaws.{printed, answered, line-fed, more-fed}
+use Rattle.session.specs.Lines.{part, lineEnd, Fed, left, saying, ended, fedOf, shownOf, Ends}
+use Rattle.session.proofs.FedLaws.{printed, answered, line-fed, more-fed}
 
 -- nothing stands before the mark where the mark stands
 up-mark : (mark : ℕ) (s : List ℕ) → length (upTo mark s) < length s → upTo mark (drop (length (upTo mark s)) s) ≡ []

@@ -16,7 +16,7 @@ use Rattle.answer.specs.Answer.{Answer, refusedLine}
 use Rattle.capture.specs.Capture.{listedAs}
 use Rattle.replay_grammar.specs.Line.{longestLine}
 use Rattle.session_programs.specs.Programs.{answerBy, asksBy}
-use Rattle.session_lines.specs.Lines.{keptBytes, part, Fed, left, saying, ended, fedOf, keptText}
+use Rattle.session.specs.Lines.{keptBytes, part, Fed, left, saying, ended, fedOf, keptText}
 use Rattle.hex.specs.Character.{newline}
 use Rattle.hex.proofs.SearchLaws.{up-taken}
 use Rattle.capture.proofs.CaptureLaws.{listed-long}

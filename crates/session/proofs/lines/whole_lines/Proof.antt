@@ -14,11 +14,11 @@ use Rattle.bridge.specs.State.{Lawful}
 use Rattle.bridge.specs.declared.Bridge.{Bridge}
 use Rattle.columns.specs.Columns.{longestAnswer}
 use Rattle.session_programs.specs.Programs.{answerBy}
-use Rattle.session_lines.specs.Lines.{part, lineEnd, ended, fedOf, Within}
-use Rattle.session_lines.proofs.FedLaws.{asked-stays}
-use Rattle.session_lines.proofs.LineLaws.{Adds, adds, Stands, next-after, Goes, lines-none, lines-on, lines-end}
-use Rattle.session_lines.proofs.whole_lines.Statement.{statement}
-use Rattle.session_lines.proofs.whole_lines.Tie as tie
+use Rattle.session.specs.Lines.{part, lineEnd, ended, fedOf, Within}
+use Rattle.session.proofs.FedLaws.{asked-stays}
+use Rattle.session.proofs.LineLaws.{Adds, adds, Stands, next-after, Goes, lines-none, lines-on, lines-end}
+use Rattle.session.proofs.lines.whole_lines.Statement.{statement}
+use Rattle.session.proofs.lines.whole_lines.Tie as tie
 
 -- where the loop stands: what the lines so far lead to and print, the line that is shown next, and how far the bytes and the output are used
 record Reached (program : ℕ) (b : Bridge) (first bytes : List ℕ) (from : ℕ) (out₀ out : List ℕ) (next : Bridge) (n held start end : ℕ) : Type 0 where

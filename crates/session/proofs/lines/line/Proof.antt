@@ -1,9 +1,9 @@
 -- By whether anything is held.
 use mathlib.Core.Path.{sym, ap}
 use lib.ListN.{length}
-use Rattle.session_lines.proofs.LineLaws.{shown-fresh, shown-held}
-use Rattle.session_lines.proofs.line.Statement.{statement}
-use Rattle.session_lines.proofs.line.Tie as tie
+use Rattle.session.proofs.LineLaws.{shown-fresh, shown-held}
+use Rattle.session.proofs.lines.line.Statement.{statement}
+use Rattle.session.proofs.lines.line.Tie as tie
 
 pub line-spec : {M : Type 1} → statement M
 line-spec =
