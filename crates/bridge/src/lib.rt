@@ -13,12 +13,12 @@ pub const DEFAULT_TIMEOUT: u64 = 0x80_0000_0000;
 
 pub const DEFAULT_BACK: u64 = 16_492_674_417;
 
-// What Setup is given: so many ports, and whether the station is capable; what it puts into its frames, its own precedence, a timeout, and each port's part.
+// What Setup is given: what the station puts into its frames, its own precedence and whether it is capable, how many ports it has, a timeout, and each port's part.
 pub struct Setup {
-    pub n: u8,
-    pub capable: bool,
     pub sender: Sender,
     pub own: Precedence,
+    pub capable: bool,
+    pub n: u8,
     pub timeout: u64,
     pub settings: [Setting; 8],
 }
