@@ -1,2 +1,3 @@
 pub mod PortLaws
+pub mod Refused
 pub mod Edges

@@ -3,4 +3,5 @@ pub mod Lawful
 pub mod Own
 pub mod Receive
 pub mod Send
+pub mod Refused
 pub mod Edges
