@@ -1,5 +1,5 @@
 -- The order of refusals of Read and Write: the number given is the lowest that applies.
-use mathlib.Core.Path.{_≡_, refl, sym, subst}
+use mathlib.Core.Path.{_≡_, refl, sym}
 use mathlib.Core.Bool.{Bool, true, false}
 use mathlib.Core.List.{List, _∷_}
 use Prim.Native.Nat.{ℕ, zero, suc, _^_}
@@ -12,7 +12,7 @@ use Rattle.frame.specs.Read.{unless, rowsOf, readRefusal, readAs, readOf
 use Rattle.frame.specs.Write.{writeRefusal}
 use Rattle.frame.specs.Order.{readConditions, writeConditions}
 use Rattle.frame.specs.declared.Fields.{Fields}
-use Rattle.refusals.proofs.Order.{Fails, first-lowest, less-fails, most-fails, same-fails}
+use Rattle.refusals.proofs.Order.{Fails, first-lowest, same-number, less-fails, most-fails, same-fails}
 
 -- a refusal where the test fails, and else the rest
 pub first-unless : {t : Bool} {P : Type 0} {cs : List Condition} {k j : ℕ} → Fails t P → First j cs → First (unless t k j) (given k P ∷ cs)
@@ -23,9 +23,9 @@ first-unless {t} {P} {cs} {k} {j} d f = by t refl where
 
 -- ---- Read
 
-pub read-first : (s : List ℕ) → First (readRefusal s) (readConditions s)
+pub read-order : (s : List ℕ) → First (readRefusal s) (readConditions s)
 unfolding readRefusal parted
-read-first s =
+read-order s =
     first-unless (same-fails (length s) 64)
     (first-unless (same-fails (numberAt s 0 6) 0x0180C200000E)
     (first-unless (same-fails (numberAt s 12 2) 0x88B5)
@@ -42,13 +42,13 @@ read-number s = by (readRefusal s) where
   by (suc k) = refl
 
 pub read-lowest : (s : List ℕ) → Lowest (readConditions s) (readNo (readOf s))
-read-lowest s = first-lowest 1 refl (subst (λ (k : ℕ). First k (readConditions s)) (sym (read-number s)) (read-first s))
+read-lowest s = first-lowest 1 refl (same-number (sym (read-number s)) (read-order s))
 
 -- ---- Write
 
-write-first : (f : Fields) (room : ℕ) → First (writeRefusal f room) (writeConditions f room)
+write-order : (f : Fields) (room : ℕ) → First (writeRefusal f room) (writeConditions f room)
 unfolding writeRefusal
-write-first f room =
+write-order f room =
     first-unless (less-fails (f .grand .0) (2 ^ 40))
     (first-unless (less-fails (f .grand .1) (2 ^ 40))
     (first-unless (less-fails (f .local .0) (2 ^ 48))
@@ -57,4 +57,4 @@ write-first f room =
     (first-unless (most-fails 64 room) (nowhere refl))))))
 
 pub write-lowest : (f : Fields) (room : ℕ) → Lowest (writeConditions f room) (writeRefusal f room)
-write-lowest f room = first-lowest 1 refl (write-first f room)
+write-lowest f room = first-lowest 1 refl (write-order f room)

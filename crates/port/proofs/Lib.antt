@@ -1,3 +1,4 @@
 pub mod PortLaws
 pub mod Refused
+pub mod Order
 pub mod Edges

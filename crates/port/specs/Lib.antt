@@ -4,4 +4,5 @@ pub mod Own
 pub mod Receive
 pub mod Send
 pub mod Refused
+pub mod Order
 pub mod Edges

@@ -1,6 +1,6 @@
 -- Laws of the order of refusals: the first number of an ascending list is the lowest, how a list grows by a test, and how two lists follow each other.
-use mathlib.Core.Path.{_≡_, refl}
-use mathlib.Core.Bool.{Bool, true, false, cond, _&&_, false≢true}
+use mathlib.Core.Path.{_≡_, refl, subst}
+use mathlib.Core.Bool.{Bool, true, false, cond, _&&_, true≢false, false≢true}
 use mathlib.Core.List.{List, [], _∷_, _++_}
 use mathlib.Core.Logic.{_⊎_, _≢_, inl, inr, ⊎-elim}
 use Prim.Native.Nat.{ℕ, _<_, _≤_}
@@ -43,6 +43,10 @@ first-lowest n a (later c cs not f) =
     (λ r. inr (λ j. ⊎-elim (λ q. not (q .0)) (r .0 j), r .1))
     (first-lowest (c .number) (first-number n c cs a .1) f)
 
+-- a number that is given in two ways
+pub same-number : {j k : ℕ} {cs : List Condition} → j ≡ k → First j cs → First k cs
+same-number {j} {k} {cs} e f = subst (λ (n : ℕ). First n cs) e f
+
 -- ---- a condition that a test decides
 
 -- the test holds just where the condition does
@@ -75,18 +79,33 @@ module _ (a b : ℕ) where
   pub same-fails : Fails (eqb a b) (a ≢ b)
   same-fails = record { is = eqb-false a b; not = λ e h. h (eqb-true a b e) }
 
+-- two tests: both conditions, or either
+pub both-tell : {s t : Bool} {P Q : Type 0} → Tells s P → Tells t Q → Tells (s && t) (P × Q)
+both-tell {s} {t} {P} {Q} d e = by s t refl refl where
+  by : (x y : Bool) → s ≡ x → t ≡ y → Tells (x && y) (P × Q)
+  by true true p q = record { is = λ _. (d .is p, e .is q); not = λ z. absurd (true≢false z) }
+  by true false p q = record { is = λ z. absurd (false≢true z); not = λ _ h. e .not q (h .1) }
+  by false y p q = record { is = λ z. absurd (false≢true z); not = λ _ h. d .not p (h .0) }
+
+pub either-fails : {s t : Bool} {P Q : Type 0} → Fails s P → Fails t Q → Fails (s && t) (P ⊎ Q)
+either-fails {s} {t} {P} {Q} d e = by s t refl refl where
+  by : (x y : Bool) → s ≡ x → t ≡ y → Fails (x && y) (P ⊎ Q)
+  by true true p q = record { is = λ z. absurd (true≢false z); not = λ _. ⊎-elim (d .not p) (e .not q) }
+  by true false p q = record { is = λ _. inr (e .is q); not = λ z. absurd (false≢true z) }
+  by false y p q = record { is = λ _. inl (d .is p); not = λ z. absurd (false≢true z) }
+
 -- a refusal where the test holds, or where it fails, and else the rest; `number` is that of an answer
 module _ {A : Type 0} (number : A → ℕ) where
-  pub first-if : {t : Bool} {P : Type 0} {cs : List Condition} {x y : A} → Tells t P → First (number y) cs → First (number (cond t x y)) (given (number x) P ∷ cs)
+  pub first-if : {t : Bool} {P : Type 0} {cs : List Condition} {x y : A} → Tells t P → (t ≡ false → First (number y) cs) → First (number (cond t x y)) (given (number x) P ∷ cs)
   first-if {t} {P} {cs} {x} {y} d f = by t refl where
     by : (s : Bool) → t ≡ s → First (number (cond s x y)) (given (number x) P ∷ cs)
     by true e = here _ _ (d .is e) refl
-    by false e = later _ _ (d .not e) f
+    by false e = later _ _ (d .not e) (f e)
 
-  pub first-else : {t : Bool} {P : Type 0} {cs : List Condition} {x y : A} → Fails t P → First (number x) cs → First (number (cond t x y)) (given (number y) P ∷ cs)
+  pub first-else : {t : Bool} {P : Type 0} {cs : List Condition} {x y : A} → Fails t P → (t ≡ true → First (number x) cs) → First (number (cond t x y)) (given (number y) P ∷ cs)
   first-else {t} {P} {cs} {x} {y} d f = by t refl where
     by : (s : Bool) → t ≡ s → First (number (cond s x y)) (given (number y) P ∷ cs)
-    by true e = later _ _ (d .not e) f
+    by true e = later _ _ (d .not e) (f e)
     by false e = here _ _ (d .is e) refl
 
 -- ---- one list after another
