@@ -5,6 +5,7 @@ pub mod StateLaws
 pub mod Keeps
 pub mod PromiseLaws
 pub mod Refused
+pub mod Order
 pub mod Line
 pub mod Least
 pub mod Choosing

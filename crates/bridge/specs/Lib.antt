@@ -10,5 +10,6 @@ pub mod Age
 pub mod Chosen
 pub mod Send
 pub mod Drift
+pub mod Order
 pub mod Demands
 pub mod Promises

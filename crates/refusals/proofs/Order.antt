@@ -94,6 +94,10 @@ either-fails {s} {t} {P} {Q} d e = by s t refl refl where
   by true false p q = record { is = λ _. inr (e .is q); not = λ z. absurd (false≢true z) }
   by false y p q = record { is = λ _. inl (d .is p); not = λ z. absurd (false≢true z) }
 
+-- a condition said in another way
+pub fails-same : {t : Bool} {P Q : Type 0} → (P → Q) → (Q → P) → Fails t P → Fails t Q
+fails-same f g d = record { is = λ e. f (d .is e); not = λ e q. d .not e (g q) }
+
 -- a refusal where the test holds, or where it fails, and else the rest; `number` is that of an answer
 module _ {A : Type 0} (number : A → ℕ) where
   pub first-if : {t : Bool} {P : Type 0} {cs : List Condition} {x y : A} → Tells t P → (t ≡ false → First (number y) cs) → First (number (cond t x y)) (given (number x) P ∷ cs)
@@ -107,6 +111,21 @@ module _ {A : Type 0} (number : A → ℕ) where
     by : (s : Bool) → t ≡ s → First (number (cond s x y)) (given (number y) P ∷ cs)
     by true e = later _ _ (d .not e) (f e)
     by false e = here _ _ (d .is e) refl
+
+-- ---- a test of several parts, and one number
+
+-- where the test fails, k is given, and a condition in the list holds
+pub record Checks (k : ℕ) (t : Bool) (cs : List Condition) : Type 1 where
+  pub order : First (cond t 0 k) cs
+
+pub check : {k : ℕ} {t : Bool} {P : Type 0} → Fails t P → Checks k t (given k P ∷ [])
+check {k} d = record { order = first-else (λ (n : ℕ). n) d (λ _. nowhere refl) }
+
+pub check-both : {k : ℕ} {s t : Bool} {P : Type 0} {cs : List Condition} → Fails s P → Checks k t cs → Checks k (s && t) (given k P ∷ cs)
+check-both {k} {s} {t} {P} {cs} d f = by s refl where
+  by : (r : Bool) → s ≡ r → Checks k (r && t) (given k P ∷ cs)
+  by true e = record { order = later _ _ (d .not e) (f .order) }
+  by false e = record { order = here _ _ (d .is e) refl }
 
 -- ---- one list after another
 
