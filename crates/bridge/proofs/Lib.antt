@@ -6,6 +6,7 @@ pub mod Keeps
 pub mod PromiseLaws
 pub mod Refused
 pub mod Order
+pub mod Literals
 pub mod Line
 pub mod Least
 pub mod Choosing

@@ -11,5 +11,6 @@ pub mod Chosen
 pub mod Send
 pub mod Drift
 pub mod Order
+pub mod Literals
 pub mod Demands
 pub mod Promises
