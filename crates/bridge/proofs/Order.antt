@@ -1,36 +1,31 @@
 -- The order of refusals of each call on the state: the number given is the lowest that applies; the own clock tests 2, 10, 8.
-use mathlib.Core.Path.{_≡_, refl, sym, ap, _∙_, subst}
-use mathlib.Core.Bool.{Bool, true, false, cond, _&&_, true≢false, false≢true}
+use mathlib.Core.Path.{_≡_, refl, sym, _∙_, subst}
+use mathlib.Core.Bool.{Bool, true, false, cond, true≢false}
 use mathlib.Core.List.{List, [], _∷_, _++_}
 use mathlib.Core.Logic.{_⊎_, inl, inr, ⊎-elim}
 use Prim.Native.Nat.{ℕ, zero, suc, _+_, _-_, _/_, _^_, _<_, _≤_}
 use native.Mathlib.Omega.{arith}
-use lib.Dec.{ltb, leb, eqb}
-use lib.ListN.{getD, take}
+use lib.Dec.{ltb, eqb}
+use lib.ListN.{take}
 use lib.Pow.{pow-lt, pow-mono, shl-shr, shr-lt, shr-mono}
 use borrow.Author.Tests.{eqb-true, eqb-false, leb-true, leb-false, ltb-true, ltb-false}
-use Rattle.refusals.specs.Order.{Condition, given, Lowest, First, nowhere, here, later}
-use Rattle.numbers.specs.Bytes.{numberAt}
+use Rattle.refusals.specs.Order.{Condition, given, Lowest, First, nowhere}
 use Rattle.numbers.specs.Table.{parted}
 use Rattle.times.specs.declared.LocalTime.{LocalTime}
 use Rattle.delay.specs.declared.DelaySetting.{DelaySetting}
 use Rattle.delay.specs.declared.DelaySetting.the-variants.{Measured, Fixed}
 use Rattle.timeline.specs.Drift.{driftThrough, driftOf, driftNo}
-use Rattle.timeline.specs.declared.Drift.{Drift}
 use Rattle.samples.specs.Keep.{endsOf}
 use Rattle.samples.specs.declared.Ends.{Ends}
 use Rattle.samples.specs.declared.Ends.the-variants.{Few, Both}
 use Rattle.choice.specs.Choose.{chosenHop}
 use Rattle.frame.specs.Frame.{fieldsOf}
-use Rattle.frame.specs.Read.{unless, rowsOf, readRefusal, readAs, readOf}
+use Rattle.frame.specs.Read.{rowsOf, readRefusal, readAs, readOf}
 use Rattle.frame.specs.Order.{readConditions}
-use Rattle.port.specs.Order.{frameConditions, departureConditions}
-use Rattle.port.specs.Receive.{receivedOf}
-use Rattle.port.specs.Send.{sendingNo, sendingOf}
 use Rattle.port.specs.declared.Setting.{Setting}
 use Rattle.bridge.specs.Arguments.{bit, hasLink, onPort, portRefusal, sendRefusal, ownClockRefusal, maskBeyond}
 use Rattle.bridge.specs.Table.{portAt, samplesAt}
-use Rattle.bridge.specs.Fits.{delayFits, delaysFit, setupFits, measuredSetting}
+use Rattle.bridge.specs.Fits.{delayFits, delaysFit, setupFits}
 use Rattle.bridge.specs.State.{Lawful, answers, refusedOr}
 use Rattle.bridge.specs.Setup.{freshOf, noBridge, setupOf}
 use Rattle.bridge.specs.Links.{linksOf, linkNo}
@@ -40,12 +35,12 @@ use Rattle.bridge.specs.Age.{ageOf}
 use Rattle.bridge.specs.Chosen.{chosenOf}
 use Rattle.bridge.specs.Send.{chosenSamples, sendingAt, sendOf}
 use Rattle.bridge.specs.Drift.{driftAt}
-use Rattle.bridge.specs.Order.{Above, FixedAbove, setupConditions, BitBeyond, linksConditions, ageConditions, driftConditions, ownClockConditions, portConditions, receiveConditions, sendConditions}
+use Rattle.bridge.specs.Order.{Above, FixedAbove, setupConditions, BitBeyond, linksConditions, ageConditions, driftConditions, ownClockConditions, portConditions, heardConditions, receiveConditions, sendConditions}
 use Rattle.bridge.specs.declared.Setup.{Setup}
 use Rattle.bridge.specs.declared.Bridge.{Bridge}
 use Rattle.bridge.specs.declared.Done.{Done}
 use Rattle.bridge.specs.declared.Linked.{Linked}
-use Rattle.refusals.proofs.Order.{ascends, first-lowest, same-number, Tells, Fails, less-tells, most-tells, less-fails, most-fails, first-if, fails-same, Checks, check, check-both, either-fails, first-stays, first-more}
+use Rattle.refusals.proofs.Order.{ascends, first-lowest, same-number, Tells, Fails, less-tells, most-tells, less-fails, most-fails, first-if, fails-same, Checks, check, check-both, checked, either-fails, first-stays, first-more}
 use Rattle.frame.proofs.Order.{first-unless, read-order}
 use Rattle.port.proofs.Order.{frame-order, reading-order, departure-order}
 use Rattle.bridge.proofs.TableLaws.{link-beyond, chosen-lawful}
@@ -87,11 +82,7 @@ setup-checks s =
 
 pub setup-lowest : (s : Setup) → Lowest (setupConditions s) (setupOf s .answer)
 unfolding setupOf
-setup-lowest s = first-lowest 1 refl (same-number (by (setupFits s)) (setup-checks s .order))
-  where
-    by : (t : Bool) → cond t 0 1 ≡ cond t (answers 0 (freshOf s)) (answers 1 noBridge) .answer
-    by true = refl
-    by false = refl
+setup-lowest s = first-lowest 1 refl (checked (λ (d : Done). d .answer) (answers 0 (freshOf s)) (answers 1 noBridge) refl refl (setup-checks s))
 
 -- ---- Links, Age and Drift
 
@@ -184,11 +175,7 @@ receive-lowest b port frame arrival =
     at : LocalTime
     at = record { 0 = arrival }
 
-    read : (k : ℕ) → First k (readConditions frame)
-        → First (readBy b i (readAs k (rowsOf frame)) at .answer)
-        (readConditions frame
-        ++ frameConditions (settingAt b i .delay) (portAt (b .ports) i .preceding) (portAt (b .ports) i .pair)
-          (numberAt frame 29 1) (numberAt frame 30 1) (record { 0 = numberAt frame 42 6 }) (record { 0 = numberAt frame 48 6 }) (record { 0 = numberAt frame 54 6 }))
+    read : (k : ℕ) → First k (readConditions frame) → First (readBy b i (readAs k (rowsOf frame)) at .answer) (readConditions frame ++ heardConditions b i frame)
     read zero f = first-more 1 (omega arith) refl f (frame-order (settingAt b i) (chosenHop (chosenOf b)) (fieldsOf (rowsOf frame)) at (portAt (b .ports) i))
     read (suc k) f = first-stays _ (λ e. omega (arith, e)) f
 

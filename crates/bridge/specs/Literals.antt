@@ -2,8 +2,7 @@
 use mathlib.Core.Bool.{true, false}
 use mathlib.Core.List.{List, [], _∷_, _++_}
 use Prim.Native.Nat.{ℕ, _+_, _-_, _*_, _^_}
-use lib.IntN.{ℤ, pos, negℤ}
-use lib.ListN.{set}
+use lib.IntN.{pos, negℤ}
 use Rattle.refusals.specs.Literals.{Literal, literal, tested, numbers}
 use Rattle.numbers.specs.Whole.{atLeastZero}
 use Rattle.times.specs.Times.{sinceOf, grandOf, momentOf, nextCount}
@@ -12,7 +11,6 @@ use Rattle.times.specs.declared.Moment.{Moment}
 use Rattle.times.specs.declared.Moment.the-variants as Moments
 use Rattle.samples.specs.Rate.{limitsHold, rateOf}
 use Rattle.samples.specs.declared.Sample.{Sample}
-use Rattle.samples.specs.declared.Samples.{Samples}
 use Rattle.samples.specs.declared.Samples.the-variants.{Empty, One, Two}
 use Rattle.delay.specs.Delay.{measuredOf, linkDelayOf, delayNo}
 use Rattle.delay.specs.declared.DelaySetting.{DelaySetting}

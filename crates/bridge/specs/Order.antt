@@ -84,15 +84,17 @@ portConditions n links port at =
     ∷ given 3 (bit links (port - 1) ≡ 0)
     ∷ []
 
--- then the frame's bytes, and then its hopCount, frameCount and delay
-abbrev pub receiveConditions : Bridge → ℕ → List ℕ → ℕ → List Condition
-receiveConditions b port frame arrival =
-    portConditions (b .setup .n) (b .links) port arrival
-    ++ (readConditions frame
-    ++ frameConditions (settingAt b (port - 1) .delay) (portAt (b .ports) (port - 1) .preceding) (portAt (b .ports) (port - 1) .pair)
-      (numberAt frame 29 1) (numberAt frame 30 1) (timeAt frame 42) (timeAt frame 48) (timeAt frame 54))
+-- what a frame that was read meets at the port at index i: by its hopCount, frameCount, localTime, thatTxTime and thatRxTime, as its bytes have them
+abbrev pub heardConditions : Bridge → ℕ → List ℕ → List Condition
+heardConditions b i frame =
+    frameConditions (settingAt b i .delay) (portAt (b .ports) i .preceding) (portAt (b .ports) i .pair)
+    (numberAt frame 29 1) (numberAt frame 30 1) (timeAt frame 42) (timeAt frame 48) (timeAt frame 54)
 
--- then an output shorter than 64, and then the chosen clock, its samples and the sent grand time
+-- the port, the frame's bytes, and then these
+abbrev pub receiveConditions : Bridge → ℕ → List ℕ → ℕ → List Condition
+receiveConditions b port frame arrival = portConditions (b .setup .n) (b .links) port arrival ++ (readConditions frame ++ heardConditions b (port - 1) frame)
+
+-- the port, an output shorter than 64, and then the chosen clock, its samples and the sent grand time
 abbrev pub sendConditions : Bridge → ℕ → ℕ → ℕ → List Condition
 sendConditions b port t room =
     portConditions (b .setup .n) (b .links) port t

@@ -1,7 +1,7 @@
 -- The order of refusals of a record: 7, 8, 9 for a frame, 8 for a reading of the own clock, 10 to 13 for a departure.
 use mathlib.Core.Path.{_≡_, refl, ap}
 use mathlib.Core.Bool.{Bool, true, false, cond, _&&_}
-use mathlib.Core.List.{List, [], _∷_}
+use mathlib.Core.List.{[], _∷_}
 use Prim.Native.Nat.{ℕ, _+_, _%_, _^_, _<_, _≤_}
 use native.Mathlib.Omega.{arith}
 use lib.Dec.{lit<, leb, eqb}
@@ -9,7 +9,7 @@ use lib.IntN.{ℤ, pos, negsuc, natAbs}
 use borrow.Author.Tests.{ltb-true}
 use Rattle.refusals.specs.Order.{First, nowhere, here, later, given}
 use Rattle.numbers.specs.Whole.{atLeastZero}
-use Rattle.times.specs.Times.{grandEnd, sinceOf, momentOf}
+use Rattle.times.specs.Times.{sinceOf, momentOf}
 use Rattle.times.specs.declared.LocalTime.{LocalTime}
 use Rattle.times.specs.declared.GrandTime.{GrandTime}
 use Rattle.times.specs.declared.ErrorTime.{ErrorTime}

@@ -1,5 +1,5 @@
 -- Laws of the order of refusals: the first number of an ascending list is the lowest, how a list grows by a test, and how two lists follow each other.
-use mathlib.Core.Path.{_≡_, refl, subst}
+use mathlib.Core.Path.{_≡_, refl, sym, subst}
 use mathlib.Core.Bool.{Bool, true, false, cond, _&&_, true≢false, false≢true}
 use mathlib.Core.List.{List, [], _∷_, _++_}
 use mathlib.Core.Logic.{_⊎_, _≢_, inl, inr, ⊎-elim}
@@ -126,6 +126,13 @@ check-both {k} {s} {t} {P} {cs} d f = by s refl where
   by : (r : Bool) → s ≡ r → Checks k (r && t) (given k P ∷ cs)
   by true e = record { order = later _ _ (d .not e) (f .order) }
   by false e = record { order = here _ _ (d .is e) refl }
+
+-- an answer by such a test: done where it holds
+pub checked : {A : Type 0} (number : A → ℕ) (x y : A) {k : ℕ} {t : Bool} {cs : List Condition} → number x ≡ 0 → number y ≡ k → Checks k t cs → First (number (cond t x y)) cs
+checked number x y {k} {t} e f c = same-number (by t) (c .order) where
+  by : (s : Bool) → cond s 0 k ≡ number (cond s x y)
+  by true = sym e
+  by false = sym f
 
 -- ---- one list after another
 
