@@ -7,6 +7,7 @@ pub mod PromiseLaws
 pub mod Refused
 pub mod Order
 pub mod Literals
+pub mod Leaves
 pub mod Line
 pub mod Least
 pub mod Choosing

@@ -12,5 +12,6 @@ pub mod Send
 pub mod Drift
 pub mod Order
 pub mod Literals
+pub mod Leaves
 pub mod Demands
 pub mod Promises

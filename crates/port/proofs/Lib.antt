@@ -1,4 +1,5 @@
 pub mod PortLaws
-pub mod Refused
+pub mod Leaves
+pub mod Literals
 pub mod Order
 pub mod Edges

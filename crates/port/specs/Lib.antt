@@ -3,6 +3,7 @@ pub mod Lawful
 pub mod Own
 pub mod Receive
 pub mod Send
-pub mod Refused
+pub mod Leaves
+pub mod Literals
 pub mod Order
 pub mod Edges
