@@ -5,6 +5,9 @@ pub mod StateLaws
 pub mod Keeps
 pub mod PromiseLaws
 pub mod Refused
+pub mod Order
+pub mod Literals
+pub mod Leaves
 pub mod Line
 pub mod Least
 pub mod Choosing

@@ -10,5 +10,8 @@ pub mod Age
 pub mod Chosen
 pub mod Send
 pub mod Drift
+pub mod Order
+pub mod Literals
+pub mod Leaves
 pub mod Demands
 pub mod Promises

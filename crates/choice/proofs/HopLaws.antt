@@ -1,10 +1,12 @@
--- Laws of the held hop: one for each arm, that it lies above the frame's hop and is at most the last, and that a jump is the half without division.
-use mathlib.Core.Path.{_≡_}
+-- Laws of the held hop: one for each arm, that it lies above the frame's hop and is at most the last, that a jump is the half without division, and what it is where no clock is chosen.
+use mathlib.Core.Path.{_≡_, sym}
 use Prim.Native.Nat.{ℕ, _+_, _-_, _*_, _<_, _≤_}
 use native.Mathlib.Omega.{arith}
 use borrow.Author.Tests.{lt-ltb, le-ltb}
 use lib.Dec.{ltb}
 use Rattle.choice.specs.Hop.{lastHop, jumpOf, hopStep, hopOf}
+use Rattle.choice.specs.Choose.{chosenHop}
+use Rattle.choice.specs.declared.Candidate.the-variants.{Nothing}
 use Rattle.numbers.proofs.Branches.{if-when}
 
 -- ---- the jump
@@ -44,3 +46,8 @@ hop-rises h chosen = if-when (λ (n : ℕ). h < h + n) (ltb chosen h) (λ _. ome
 pub hop-within : (h chosen : ℕ) → h < lastHop → hopOf h chosen ≤ lastHop
 unfolding hopOf hopStep
 hop-within h chosen l = if-when (λ (n : ℕ). h + n ≤ lastHop) (ltb chosen h) (λ _. jump-within h l) (λ _. omega arith)
+
+-- where no clock is chosen, every frame that can be taken is held one hop on: H of no choice is no less than any hop below 255
+pub hop-unchosen : (h : ℕ) → h < 255 → hopOf h (chosenHop Nothing) ≡ h + 1
+unfolding chosenHop
+hop-unchosen h l = sym (hop-step h lastHop (omega (arith, l)))

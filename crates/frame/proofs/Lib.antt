@@ -1,3 +1,5 @@
 pub mod FrameLaws
 pub mod Trip
 pub mod Cases
+pub mod Order
+pub mod Literals

@@ -1,2 +1,5 @@
 pub mod PortLaws
+pub mod Leaves
+pub mod Literals
+pub mod Order
 pub mod Edges

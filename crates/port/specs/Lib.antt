@@ -3,4 +3,7 @@ pub mod Lawful
 pub mod Own
 pub mod Receive
 pub mod Send
+pub mod Leaves
+pub mod Literals
+pub mod Order
 pub mod Edges

@@ -3,3 +3,4 @@ pub mod TimestampLaws
 pub mod Trips
 pub mod ScaleLaws
 pub mod Edges
+pub mod Order

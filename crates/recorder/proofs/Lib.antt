@@ -2,4 +2,5 @@ pub mod DistanceLaws
 pub mod StampLaws
 pub mod Near
 pub mod Order
+pub mod Conditions
 pub mod Edges

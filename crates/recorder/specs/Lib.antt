@@ -1,4 +1,5 @@
 pub mod Stamp
 pub mod Promises
+pub mod Conditions
 pub mod Demands
 pub mod Edges
