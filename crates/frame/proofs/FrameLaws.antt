@@ -107,20 +107,30 @@ pub fields-at : (s : List ℕ) → fieldsOf (rowsOf s) ≡ fieldsAt s
 unfolding parted
 fields-at s = refl
 
--- what is read is as wanted, and so are its number and its fields
-pub promised : (s : List ℕ) (r : Reading) → r ≡ readOf s → ReadPromise s r
+-- the number of what is read, and the fields that it carries
+pub read-number : (s : List ℕ) (r : Reading) → r ≡ readOf s → readNo r ≡ readRefusal s
 unfolding readOf
-promised s r e =
-    let told = by (readRefusal s) in
-    record {
-      answer = e;
-      number = ap readNo e ∙ told .0 ∙ refusal-at s;
-      fields = ap readFields e ∙ told .1 ∙ (λ i. carried (refusal-at s i) (fields-at s i));
-    }
+read-number s r e = ap readNo e ∙ by (readRefusal s)
   where
-    by : (k : ℕ) → (readNo (readAs k (rowsOf s)) ≡ k) × (readFields (readAs k (rowsOf s)) ≡ carried k (fieldsOf (rowsOf s)))
-    by zero = (refl, refl)
-    by (suc k) = (refl, refl)
+    by : (k : ℕ) → readNo (readAs k (rowsOf s)) ≡ k
+    by zero = refl
+    by (suc k) = refl
+
+pub read-fields : (s : List ℕ) (r : Reading) → r ≡ readOf s → readFields r ≡ carried (readRefusal s) (fieldsOf (rowsOf s))
+unfolding readOf
+read-fields s r e = ap readFields e ∙ by (readRefusal s)
+  where
+    by : (k : ℕ) → readFields (readAs k (rowsOf s)) ≡ carried k (fieldsOf (rowsOf s))
+    by zero = refl
+    by (suc k) = refl
+
+-- what is read is as wanted, and so are both
+pub promised : (s : List ℕ) (r : Reading) → r ≡ readOf s → ReadPromise s r
+promised s r e = record {
+  answer = e;
+  number = read-number s r e ∙ refusal-at s;
+  fields = read-fields s r e ∙ (λ i. carried (refusal-at s i) (fields-at s i));
+}
 
 -- what a frame that is read was
 pub reading : (s : List ℕ) (f : Fields) → readOf s ≡ Frame f → (readRefusal s ≡ 0) × (fieldsOf (rowsOf s) ≡ f)
