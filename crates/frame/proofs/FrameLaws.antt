@@ -8,14 +8,14 @@ use native.Mathlib.Omega.{arith}
 use lib.Dec.{ltb, leb, eqb}
 use lib.ListN.{length, drop, getD}
 use borrow.Author.Tests.{eq-eqb, ne-eqb, eqb-true, eqb-false, ltb-true, leb-true, lt-ltb, le-leb}
-use Rattle.refusals.specs.Chain.{carried}
+use Rattle.refusals.specs.Chain.{unless, carried}
 use Rattle.numbers.specs.Table.{parted}
 use Rattle.choice.specs.Hop.{lastHop}
 use Rattle.times.specs.Times.{second, circle}
 use Rattle.choice.specs.Precedence.{keyOf}
 use Rattle.choice.specs.declared.Precedence.{Precedence}
 use Rattle.frame.specs.Frame.{frameLength, stationAddress, localExperimental, timeSync, firstVersion, fieldsOf}
-use Rattle.frame.specs.Read.{unless, rowsOf, constantsRefusal, readRefusal, readAs, readOf, readNo, readFields}
+use Rattle.frame.specs.Read.{rowsOf, constantsRefusal, readRefusal, readAs, readOf, readNo, readFields}
 use Rattle.frame.specs.Values.{bytesRefusal, fieldsAt}
 use Rattle.frame.specs.Write.{writeRefusal, bytesOf, writtenAs, writtenOf}
 use Rattle.frame.specs.Better.{standingBy, standingOf, winnerOf}

@@ -3,6 +3,7 @@ use mathlib.Core.Path.{_≡_, refl, sym, ap, _∙_}
 use mathlib.Core.Bool.{Bool, true, false, cond, _&&_}
 use mathlib.Core.Option.{Option}
 use Prim.Native.Nat.{ℕ, suc}
+use native.Mathlib.Omega.{arith}
 use lib.Dec.{ltb}
 use lib.IntN.{ℤ, pos, negsuc, natAbs}
 use Rattle.refusals.specs.Refusals.{outOfRange, beyondRange}
@@ -59,6 +60,15 @@ module _ {A B : Type 0} (numberOf : A → ℕ) (valueOf : A → Option B) (given
       by : (b : Bool) → Told (f (cond b (secondOf z) (Refused outOfRange))) (unless b outOfRange (unless (isSecond z) beyondRange 0))
       by true = second-told z taken
       by false = refused 1
+
+-- where no refusal is met, the scale's second is no less than 0: its size is itself
+pub second-given : (ptp : ℕ) (z : ℤ) → scaleRefusal ptp z ≡ 0 → pos (natAbs z) ≡ z
+second-given ptp (pos n) e = refl
+second-given ptp (negsuc n) e = absurd (by (ltb ptp secondsEnd) e)
+  where
+    by : (b : Bool) → unless b outOfRange beyondRange ≡ 0 → ⊥
+    by true q = omega (arith, q)
+    by false q = omega (arith, q)
 
 -- ---- what is handed back is as wanted, and so it is as promised
 
