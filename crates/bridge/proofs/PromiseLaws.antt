@@ -68,6 +68,7 @@ least-rank b f =
     (λ i. leastOf (own-rank (b .setup .capable) (b .setup .own) i) (ranks-are 1 (b .ports) i))
     ∙ least-is rankIn own (candidatesFrom 1 (b .ports)) (chosenOf b) (chosen-member b) (λ x m. rank-no-worse (chosenOf b) x f (chosen-least b x m))
 
+-- so what is shown stands in the least rank
 pub chosen-out : (b : Bridge) (c : Candidate) → CandidateFits (chosenOf b) → c ≡ chosenOf b → ChosenPromise b c
 chosen-out b c f e = record {
   answer = e;

@@ -46,6 +46,7 @@ scaleRefusal ptp z = unless (ltb ptp secondsEnd) outOfRange (unless (isSecond z)
 abbrev pub gpsOffset : ℕ
 gpsOffset = 315964819
 
+-- the second of the scale, before its range is looked at
 abbrev pub onGps : PtpSecond → ℤ
 onGps s = pos (s .0) -ℤ pos gpsOffset
 
@@ -65,6 +66,7 @@ gpsGiven s = record { 0 = natAbs (onGps s) }
 
 -- ---- UTC = PTP - leapSeconds
 
+-- the second of the scale, before its range is looked at
 abbrev pub onUtc : PtpSecond → ℤ → ℤ
 onUtc s leapSeconds = pos (s .0) -ℤ leapSeconds
 
@@ -75,6 +77,7 @@ asUtc (Refused k) = Utc.Refused k
 unfoldable pub utcOf : PtpSecond → ℤ → ToUtc
 utcOf s leapSeconds = asUtc (scaledOf (s .0) (onUtc s leapSeconds))
 
+-- the number of the refusal, and the second where there is none
 abbrev pub utcRefusal : PtpSecond → ℤ → ℕ
 utcRefusal s leapSeconds = scaleRefusal (s .0) (onUtc s leapSeconds)
 
@@ -86,6 +89,7 @@ utcGiven s leapSeconds = record { 0 = natAbs (onUtc s leapSeconds) }
 abbrev pub ntpOffset : ℕ
 ntpOffset = 2208988800
 
+-- the second of the scale, before its range is looked at
 abbrev pub onNtp : PtpSecond → ℤ → ℤ
 onNtp s leapSeconds = pos (s .0) +ℤ pos ntpOffset -ℤ leapSeconds
 
@@ -96,6 +100,7 @@ asNtp (Refused k) = Ntp.Refused k
 unfoldable pub ntpOf : PtpSecond → ℤ → ToNtp
 ntpOf s leapSeconds = asNtp (scaledOf (s .0) (onNtp s leapSeconds))
 
+-- the number of the refusal, and the second where there is none
 abbrev pub ntpRefusal : PtpSecond → ℤ → ℕ
 ntpRefusal s leapSeconds = scaleRefusal (s .0) (onNtp s leapSeconds)
 
