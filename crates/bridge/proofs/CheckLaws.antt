@@ -8,7 +8,7 @@ use lib.Dec.{lit<, leb, ltb}
 use lib.Pow.{pow-mono}
 use Rattle.times.specs.Times.{circle, second}
 use Rattle.frame.specs.Frame.{frameLength}
-use Rattle.frame.specs.Read.{unless}
+use Rattle.refusals.specs.Chain.{unless}
 use Rattle.bridge.specs.Arguments.{hasLink, onPort, portRefusal, sendRefusal, ownClockRefusal}
 use Rattle.frame.proofs.FrameLaws.{none, unless-is}
 

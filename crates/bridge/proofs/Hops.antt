@@ -48,7 +48,7 @@ use Rattle.bridge.specs.declared.Linked.{Linked}
 use Rattle.numbers.proofs.Branches.{if-when}
 use Rattle.numbers.proofs.Places.{number-at-small}
 use Rattle.choice.proofs.HopLaws.{hop-rises, hop-within}
-use Rattle.frame.proofs.FrameLaws.{accepted, reading, promised, framed}
+use Rattle.frame.proofs.FrameLaws.{accepted, reading, read-number, framed}
 use Rattle.frame.proofs.Trip.{hop-number}
 use Rattle.port.proofs.PortLaws.{aged-is, received-is, received-last-hop}
 use Rattle.bridge.proofs.CheckLaws.{Ready, port-ready}
@@ -87,7 +87,7 @@ record Took (b : Bridge) (port : ℕ) (frame : List ℕ) (arrival : ℕ) (next :
 -- a refusal by the frame's bytes is no 0
 refused-by-bytes : (s : List ℕ) (k : ℕ) → readOf s ≡ Readings.Refused k → k ≡ 0 → ⊥
 refused-by-bytes s k q z =
-    let number : k ≡ readRefusal s = promised s (Readings.Refused k) (sym q) .number in
+    let number : k ≡ readRefusal s = read-number s (Readings.Refused k) (sym q) in
     let taken : Readings.Frame (fieldsOf (rowsOf s)) ≡ readOf s = framed 0 s (sym z ∙ number) refl in
     let clash : _≡_ {A = ℕ} 0 1 = cc in
     absurd (omega arith)

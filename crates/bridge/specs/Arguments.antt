@@ -3,9 +3,9 @@ use mathlib.Core.Bool.{Bool}
 use Prim.Native.Nat.{ℕ, _-_, _/_, _%_, _^_}
 use lib.Dec.{ltb, leb, eqb}
 use Rattle.refusals.specs.Refusals.{done, outOfRange, noLink, wrongLength, noClock}
+use Rattle.refusals.specs.Chain.{unless}
 use Rattle.times.specs.Times.{circle, second}
 use Rattle.frame.specs.Frame.{frameLength}
-use Rattle.frame.specs.Read.{unless}
 
 -- bit i of a byte
 abbrev pub bit : ℕ → ℕ → ℕ

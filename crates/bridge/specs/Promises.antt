@@ -1,20 +1,24 @@
--- What the public calls on the state promise: the answer, in document 01's numbers and values where it is an enum, the next state, and every byte of a lent output.
+-- What the public calls on the state promise: the answer; where it is an enum, document 01's number and values by the arguments; the next state, and every byte of a lent output.
 use mathlib.Core.Path.{_≡_}
 use mathlib.Core.Bool.{cond}
 use mathlib.Core.List.{List}
+use mathlib.Core.Option.{none}
 use Prim.Native.Nat.{ℕ}
 use lib.Count.{ones}
 use lib.Dec.{ltb}
 use lib.ListN.{length}
 use Rattle.refusals.specs.Refusals.{done, outOfRange}
-use Rattle.timeline.specs.Drift.{driftNo, driftReading}
+use Rattle.samples.specs.Keep.{endsOf}
+use Rattle.timeline.specs.Drift.{driftNo, driftReading, readingThrough}
 use Rattle.timeline.specs.declared.Drift.{Drift}
 use Rattle.choice.specs.Choose.{shownPort, shownHop}
+use Rattle.choice.specs.Least.{portIn, hopIn}
 use Rattle.choice.specs.declared.Candidate.{Candidate}
+use Rattle.bridge.specs.Table.{samplesAt}
 use Rattle.bridge.specs.Arguments.{maskBeyond}
 use Rattle.bridge.specs.State.{Lawful}
 use Rattle.bridge.specs.Links.{linksOf, linkNo, linkCount}
-use Rattle.bridge.specs.Chosen.{chosenOf}
+use Rattle.bridge.specs.Chosen.{chosenOf, leastRank}
 use Rattle.bridge.specs.Send.{sendOf, sendBytes}
 use Rattle.bridge.specs.Drift.{driftAt}
 use Rattle.bridge.specs.declared.Bridge.{Bridge}
@@ -35,11 +39,11 @@ pub record LinksPromise (b : Bridge) (mask : ℕ) (d : Linked) : Type 0 where
   pub next : d .next ≡ linksOf b mask .next
   pub lawful : Lawful (d .next)
 
--- chosen: the port and the held hop, or none
+-- chosen: the port and the held hop that stand in the least rank, FF and FF where there is none
 pub record ChosenPromise (b : Bridge) (c : Candidate) : Type 0 where
   pub answer : c ≡ chosenOf b
-  pub port : shownPort c ≡ shownPort (chosenOf b)
-  pub hop : shownHop c ≡ shownHop (chosenOf b)
+  pub port : shownPort c ≡ portIn (leastRank b)
+  pub hop : shownHop c ≡ hopIn (leastRank b)
 
 -- send, with every byte of the output
 pub record SendPromise (b : Bridge) (port t : ℕ) (out : List ℕ) (d : Done) (left : List ℕ) : Type 0 where
@@ -48,8 +52,8 @@ pub record SendPromise (b : Bridge) (port t : ℕ) (out : List ℕ) (d : Done) (
   pub bytes : left ≡ sendBytes b port t out
   pub lawful : Lawful (d .next)
 
--- drift: 2 exactly for a port above n, and the reading, if there is one
+-- drift: 2 exactly for a port above n; and the reading, by the ends of that clock's samples, if there is one
 pub record DriftPromise (b : Bridge) (port : ℕ) (x : Drift) : Type 0 where
   pub answer : x ≡ driftAt b port
   pub number : driftNo x ≡ cond (ltb (b .setup .n) port) outOfRange done
-  pub reading : driftReading x ≡ driftReading (driftAt b port)
+  pub reading : driftReading x ≡ cond (ltb (b .setup .n) port) none (readingThrough (endsOf (samplesAt port (b .clock) (b .ports))))

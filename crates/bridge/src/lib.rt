@@ -1,4 +1,6 @@
-// The state of a bridge, handed in and back by value, and what its calls answer. The definitions and theorems of all calls stand here; each call's code is a crate above.
+// The state of a bridge, handed in and back by value, what its calls answer, and Setup's defaults. The definitions and theorems of all calls stand here; each call's code is a crate above.
+ghost use mathlib.Core.Path.{_≡_};
+ghost use Rattle.bridge.specs.Setup.{defaultTimeout, defaultBack};
 use choice::Precedence;
 use port::OwnClock;
 use port::Port;
@@ -8,10 +10,10 @@ use port::Setting;
 // How many records there are.
 pub const PORTS: usize = 8;
 
-// The default timeout, half a second, and the default backTime, 15 ms.
-pub const DEFAULT_TIMEOUT: u64 = 0x80_0000_0000;
+// Half a second, and 15 ms.
+const HALF_A_SECOND: u64 = 0x80_0000_0000;
 
-pub const DEFAULT_BACK: u64 = 16_492_674_417;
+const FIFTEEN_MILLISECONDS: u64 = 16_492_674_417;
 
 // What Setup is given: what the station puts into its frames, its own precedence and whether it is capable, how many ports it has, a timeout, and each port's part.
 pub struct Setup {
@@ -47,4 +49,18 @@ pub enum LinkCount {
 pub struct Linked {
     pub next: Bridge,
     pub answer: LinkCount,
+}
+
+// The default timeout.
+pub fn default_timeout() -> u64
+    ensures { λ r. ⌜ r ≡ defaultTimeout ⌝ }
+{
+    HALF_A_SECOND
+}
+
+// The default backTime.
+pub fn default_back() -> u64
+    ensures { λ r. ⌜ r ≡ defaultBack ⌝ }
+{
+    FIFTEEN_MILLISECONDS
 }

@@ -37,7 +37,7 @@ pub fn start() -> Bridge
 {
     let first = bridge_setup::setup(bridge_setup::plain_setup(
         PORTS,
-        bridge::DEFAULT_TIMEOUT,
+        bridge::default_timeout(),
         BACK,
     ));
     let down = first.next;

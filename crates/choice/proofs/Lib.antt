@@ -1,3 +1,4 @@
 pub mod RankLaws
 pub mod HopLaws
 pub mod ShownLaws
+pub mod LeastLaws

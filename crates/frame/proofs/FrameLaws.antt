@@ -8,12 +8,15 @@ use native.Mathlib.Omega.{arith}
 use lib.Dec.{ltb, leb, eqb}
 use lib.ListN.{length, drop, getD}
 use borrow.Author.Tests.{eq-eqb, ne-eqb, eqb-true, eqb-false, ltb-true, leb-true, lt-ltb, le-leb}
+use Rattle.refusals.specs.Chain.{unless, carried}
+use Rattle.numbers.specs.Table.{parted}
 use Rattle.choice.specs.Hop.{lastHop}
 use Rattle.times.specs.Times.{second, circle}
 use Rattle.choice.specs.Precedence.{keyOf}
 use Rattle.choice.specs.declared.Precedence.{Precedence}
 use Rattle.frame.specs.Frame.{frameLength, stationAddress, localExperimental, timeSync, firstVersion, fieldsOf}
-use Rattle.frame.specs.Read.{unless, rowsOf, constantsRefusal, readRefusal, readAs, readOf, readNo}
+use Rattle.frame.specs.Read.{rowsOf, constantsRefusal, readRefusal, readAs, readOf, readNo, readFields}
+use Rattle.frame.specs.Values.{bytesRefusal, fieldsAt}
 use Rattle.frame.specs.Write.{writeRefusal, bytesOf, writtenAs, writtenOf}
 use Rattle.frame.specs.Better.{standingBy, standingOf, winnerOf}
 use Rattle.frame.specs.Promises.{ReadPromise}
@@ -95,14 +98,39 @@ pub framed : (k : ℕ) (s : List ℕ) → k ≡ readRefusal s → k ≡ 0 → Fr
 unfolding readOf
 framed k s e h = ap (λ (n : ℕ). readAs n (rowsOf s)) (sym h ∙ e)
 
--- what is read is as wanted, and so is its number
-pub promised : (s : List ℕ) (r : Reading) → r ≡ readOf s → ReadPromise s r
+-- each row stands at its bytes: the constants that are tested, and the fields
+pub refusal-at : (s : List ℕ) → readRefusal s ≡ bytesRefusal s
+unfolding readRefusal parted
+refusal-at s = refl
+
+pub fields-at : (s : List ℕ) → fieldsOf (rowsOf s) ≡ fieldsAt s
+unfolding parted
+fields-at s = refl
+
+-- the number of what is read, and the fields that it carries
+pub read-number : (s : List ℕ) (r : Reading) → r ≡ readOf s → readNo r ≡ readRefusal s
 unfolding readOf
-promised s r e = record { answer = e; number = ap readNo e ∙ by (readRefusal s) }
+read-number s r e = ap readNo e ∙ by (readRefusal s)
   where
     by : (k : ℕ) → readNo (readAs k (rowsOf s)) ≡ k
     by zero = refl
     by (suc k) = refl
+
+pub read-fields : (s : List ℕ) (r : Reading) → r ≡ readOf s → readFields r ≡ carried (readRefusal s) (fieldsOf (rowsOf s))
+unfolding readOf
+read-fields s r e = ap readFields e ∙ by (readRefusal s)
+  where
+    by : (k : ℕ) → readFields (readAs k (rowsOf s)) ≡ carried k (fieldsOf (rowsOf s))
+    by zero = refl
+    by (suc k) = refl
+
+-- what is read is as wanted, and so are both
+pub promised : (s : List ℕ) (r : Reading) → r ≡ readOf s → ReadPromise s r
+promised s r e = record {
+  answer = e;
+  number = read-number s r e ∙ refusal-at s;
+  fields = read-fields s r e ∙ (λ i. carried (refusal-at s i) (fields-at s i));
+}
 
 -- what a frame that is read was
 pub reading : (s : List ℕ) (f : Fields) → readOf s ≡ Frame f → (readRefusal s ≡ 0) × (fieldsOf (rowsOf s) ≡ f)

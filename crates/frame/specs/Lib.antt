@@ -1,5 +1,6 @@
 pub mod Frame
 pub mod Read
+pub mod Values
 pub mod Write
 pub mod Better
 pub mod Order

@@ -4,16 +4,19 @@ use mathlib.Core.List.{List}
 use Prim.Native.Nat.{ℕ}
 use lib.ListN.{length}
 use denote.Ref.{RefT}
-use Rattle.frame.specs.Read.{readRefusal, readOf, readNo}
+use Rattle.refusals.specs.Chain.{carried}
+use Rattle.frame.specs.Read.{readOf, readNo, readFields}
+use Rattle.frame.specs.Values.{bytesRefusal, fieldsAt}
 use Rattle.frame.specs.Write.{writeRefusal, writtenOf}
 use Rattle.frame.specs.Better.{lies, betterPartOf}
 use Rattle.frame.specs.declared.Fields.{Fields}
 use Rattle.frame.specs.declared.Reading.{Reading}
 
--- the fields or the refusal, and its number
+-- the fields or the refusal; its number and each field, by the bytes
 pub record ReadPromise (s : List ℕ) (r : Reading) : Type 0 where
   pub answer : r ≡ readOf s
-  pub number : readNo r ≡ readRefusal s
+  pub number : readNo r ≡ bytesRefusal s
+  pub fields : readFields r ≡ carried (bytesRefusal s) (fieldsAt s)
 
 -- the answer, and every byte of the output
 pub record WritePromise (f : Fields) (out : List ℕ) (k : ℕ) (left : List ℕ) : Type 0 where

@@ -1,19 +1,16 @@
 -- Read: what bytes are refused with, and the fields of those that are not.
 use Prim.Native.Nat.{ℕ, zero, suc}
-use mathlib.Core.Bool.{Bool, true, false}
 use mathlib.Core.List.{List}
+use mathlib.Core.Option.{Option, none, some}
 use lib.ListN.{length, getD}
 use lib.Dec.{eqb}
 use Rattle.refusals.specs.Refusals.{done, wrongLength, wrongConstant, wrongVersion}
+pub use Rattle.refusals.specs.Chain.{unless}
 use Rattle.numbers.specs.Table.{parted}
 use Rattle.frame.specs.Frame.{frameLength, stationAddress, localExperimental, timeSync, firstVersion, widths, daRow, protocolTypeRow, functionRow, versionRow, zeroRow, fieldsOf}
+use Rattle.frame.specs.declared.Fields.{Fields}
 use Rattle.frame.specs.declared.Reading.{Reading}
 use Rattle.frame.specs.declared.Reading.the-variants.{Frame, Refused}
-
--- n where the test holds, else the refusal k
-abbrev pub unless : Bool → ℕ → ℕ → ℕ
-unless true k n = n
-unless false k n = k
 
 -- the rows of a frame
 abbrev pub rowsOf : List ℕ → List ℕ
@@ -43,3 +40,8 @@ readOf s = readAs (readRefusal s) (rowsOf s)
 abbrev pub readNo : Reading → ℕ
 readNo (Frame f) = done
 readNo (Refused k) = k
+
+-- the fields that an answer carries
+abbrev pub readFields : Reading → Option Fields
+readFields (Frame f) = some f
+readFields (Refused k) = none

@@ -4,10 +4,10 @@ use mathlib.Core.List.{List}
 use lib.ListN.{length, drop}
 use lib.Dec.{ltb, leb}
 use Rattle.refusals.specs.Refusals.{done, outOfRange, wrongLength}
+use Rattle.refusals.specs.Chain.{unless}
 use Rattle.times.specs.Times.{second, circle}
 use Rattle.numbers.specs.Table.{joined}
 use Rattle.frame.specs.Frame.{frameLength, widths, valuesOf}
-use Rattle.frame.specs.Read.{unless}
 use Rattle.frame.specs.declared.Fields.{Fields}
 
 -- 2 for a time out of range, 4 for an output that is too short, or 0

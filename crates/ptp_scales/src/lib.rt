@@ -2,7 +2,7 @@
 ghost use mathlib.Core.Path.{_≡_};
 ghost use Prim.Native.Nat.{_^_, _<_};
 ghost use lib.IntN.{pos, natAbs, _+ℤ_, _-ℤ_};
-ghost use Rattle.ptp.specs.Scale.{scaledOf, gpsOf, utcOf, ntpOf, gpsNo, gpsSecond, utcNo, utcSecond, ntpNo, ntpSecond};
+ghost use Rattle.ptp.specs.Scale.{scaledOf, gpsOf, gpsRefusal, gpsGiven, utcOf, utcRefusal, utcGiven, ntpOf, ntpRefusal, ntpGiven, gpsNo, gpsSecond, utcNo, utcSecond, ntpNo, ntpSecond};
 ghost use Rattle.ptp.specs.Promises.{AnswerPromise};
 use ptp::GpsSecond;
 use ptp::NtpSecond;
@@ -47,7 +47,7 @@ fn on_scale(second: PtpSecond, offset: i64, leap: i16) -> Scaled
 
 // GPS: a PTP second on the GPS scale.
 pub fn gps(second: PtpSecond) -> ToGps
-    ensures { λ r. ⌜ AnswerPromise gpsNo gpsSecond (gpsOf second) r ⌝ }
+    ensures { λ r. ⌜ AnswerPromise gpsNo gpsSecond (gpsOf second) (gpsRefusal second) (gpsGiven second) r ⌝ }
 {
     match on_scale(second, GPS_OFFSET, NO_LEAP) {
         Scaled::Second(n) => ToGps::Second(GpsSecond(n)),
@@ -57,7 +57,7 @@ pub fn gps(second: PtpSecond) -> ToGps
 
 // UTC: a PTP second on the UTC scale, by the leap seconds supplied.
 pub fn utc(second: PtpSecond, leap: i16) -> ToUtc
-    ensures { λ r. ⌜ AnswerPromise utcNo utcSecond (utcOf second leap) r ⌝ }
+    ensures { λ r. ⌜ AnswerPromise utcNo utcSecond (utcOf second leap) (utcRefusal second leap) (utcGiven second leap) r ⌝ }
 {
     match on_scale(second, UTC_OFFSET, leap) {
         Scaled::Second(n) => ToUtc::Second(UtcSecond(n)),
@@ -67,7 +67,7 @@ pub fn utc(second: PtpSecond, leap: i16) -> ToUtc
 
 // NTP: a PTP second on the NTP scale, by the leap seconds supplied.
 pub fn ntp(second: PtpSecond, leap: i16) -> ToNtp
-    ensures { λ r. ⌜ AnswerPromise ntpNo ntpSecond (ntpOf second leap) r ⌝ }
+    ensures { λ r. ⌜ AnswerPromise ntpNo ntpSecond (ntpOf second leap) (ntpRefusal second leap) (ntpGiven second leap) r ⌝ }
 {
     match on_scale(second, NTP_OFFSET, leap) {
         Scaled::Second(n) => ToNtp::Second(NtpSecond(n)),

@@ -2,7 +2,7 @@
 ghost use mathlib.Core.Path.{_≡_};
 ghost use Prim.Native.Nat.{_<_};
 ghost use Rattle.times.specs.Times.{second};
-ghost use Rattle.ptp.specs.Timestamp.{billion, nanosecondOf, fractionOf, exportOf, importOf, exportNo, exportTime, importNo, importTime};
+ghost use Rattle.ptp.specs.Timestamp.{billion, nanosecondOf, ptpTimeOf, exportOf, exportRefusal, fractionOf, grandTimeOf, importOf, importRefusal, exportNo, exportTime, importNo, importTime};
 ghost use Rattle.ptp.specs.Promises.{AnswerPromise};
 use ptp::Exported;
 use ptp::Imported;
@@ -37,7 +37,7 @@ fn fraction(nanosecond: u64) -> u64
 
 // Export: the PTP time of a grand time, rounded down to the nanosecond.
 pub fn export(time: GrandTime) -> Exported
-    ensures { λ r. ⌜ AnswerPromise exportNo exportTime (exportOf time) r ⌝ }
+    ensures { λ r. ⌜ AnswerPromise exportNo exportTime (exportOf time) (exportRefusal time) (ptpTimeOf time) r ⌝ }
 {
     if grand::SECOND <= time.0 {
         return Exported::Refused(refusals::OUT_OF_RANGE);
@@ -50,7 +50,7 @@ pub fn export(time: GrandTime) -> Exported
 
 // Import: the least grand time whose export is that PTP time.
 pub fn import(time: PtpTime) -> Imported
-    ensures { λ r. ⌜ AnswerPromise importNo importTime (importOf time) r ⌝ }
+    ensures { λ r. ⌜ AnswerPromise importNo importTime (importOf time) (importRefusal time) (grandTimeOf time) r ⌝ }
 {
     let second = time.0;
     if grand::SECOND <= second.0 {

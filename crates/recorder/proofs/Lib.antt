@@ -1,5 +1,6 @@
 pub mod DistanceLaws
 pub mod StampLaws
+pub mod PromiseLaws
 pub mod Near
 pub mod Order
 pub mod Conditions

@@ -23,10 +23,8 @@ use Rattle.choice.specs.declared.Candidate.the-variants.{Nothing, Clock}
 use Rattle.bridge.specs.Chosen.{chosenOf}
 use Rattle.bridge.specs.Send.{chosenSamples}
 use Rattle.bridge.specs.declared.Bridge.{Bridge}
-use Rattle.recorder.specs.Stamp.{latched, distanceOf, tooFar, stampAs, stampThrough, stampBy, stampOf, stampNo, stampTime}
+use Rattle.recorder.specs.Stamp.{latched, distanceOf, tooFar, stampAs, stampThrough, stampBy, stampOf, stampNo}
 use Rattle.recorder.specs.Demands.{InReachAnswers, ReachAnswers, ClockAnswers, StampAnswers}
-use Rattle.recorder.specs.Promises.{StampPromise}
-use Rattle.recorder.specs.declared.Stamped.{Stamped}
 use Rattle.recorder.specs.declared.Stamped.the-variants.{At, Refused}
 use Rattle.numbers.proofs.Branches.{if-true, if-false, if-when}
 use Rattle.times.proofs.TimeLaws.{moment-is}
@@ -97,14 +95,6 @@ module _ (b : Bridge) (latch : ℕ) where
         where
           some-clock : (p : Precedence) (h n : ℕ) → chosenOf b ≡ Clock p h n → chosenOf b ≡ Nothing → ⊥
           some-clock p h n q e = let z : _≡_ {A = ℕ} 0 1 = cc in omega arith
-
--- ---- the promise, from its equation; and two outcomes that it allows are equal
-
-pub stamp-out : (b : Bridge) (latch : ℕ) (s : Stamped) → s ≡ stampOf b latch → StampPromise b latch s
-stamp-out b latch s e = record { answer = e; number = ap stampNo e; time = ap stampTime e }
-
-pub stamp-one : (b : Bridge) (latch : ℕ) (x y : Stamped) → StampPromise b latch x → StampPromise b latch y → x ≡ y
-stamp-one b latch x y p q = p .answer ∙ sym (q .answer)
 
 -- ---- what a stamp tells: the ends of the chosen clock's samples, and that it is the reading at the latch of the line through them
 

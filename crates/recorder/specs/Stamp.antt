@@ -1,11 +1,12 @@
 -- The stamp of a latch: the grand time of a local time that the recorder's front end latched when a wave arrived.
-use mathlib.Core.Bool.{cond}
+use mathlib.Core.Bool.{Bool, true, false, cond}
 use mathlib.Core.Option.{Option, none, some}
 use Prim.Native.Nat.{ℕ, _^_}
 use lib.Dec.{ltb, leb}
-use lib.IntN.{ℤ, pos, natAbs, _-ℤ_}
+use lib.IntN.{ℤ, pos, negsuc, natAbs, _-ℤ_}
 use Rattle.refusals.specs.Refusals.{done, outOfRange, noClock, fewSamples, tooLate, beyondRange}
-use Rattle.times.specs.Times.{circle, sinceOf, momentOf}
+use Rattle.refusals.specs.Chain.{unless}
+use Rattle.times.specs.Times.{circle, grandEnd, sinceOf, grandOf, momentOf}
 use Rattle.times.specs.declared.LocalTime.{LocalTime}
 use Rattle.times.specs.declared.GrandTime.{GrandTime}
 use Rattle.times.specs.declared.Moment.{Moment}
@@ -76,3 +77,47 @@ stampNo (Refused k) = k
 abbrev pub stampTime : Stamped → Option GrandTime
 stampTime (At g) = some g
 stampTime (Refused k) = none
+
+-- ---- the number and the grand time of a stamp, by the state and the latch
+
+-- a clock is chosen
+abbrev pub isClock : Candidate → Bool
+isClock Nothing = false
+isClock (Clock precedence hop number) = true
+
+-- its samples have both ends
+abbrev pub hasEnds : Ends → Bool
+hasEnds Few = false
+hasEnds (Both a b) = true
+
+-- how far the latch lies from the newer end, and the line read there; 0 where there are no ends
+abbrev pub distanceFrom : Ends → LocalTime → ℤ
+distanceFrom Few latch = pos 0
+distanceFrom (Both a b) latch = distanceOf latch (b .local)
+
+abbrev pub readingFrom : Ends → LocalTime → ℤ
+readingFrom Few latch = pos 0
+readingFrom (Both a b) latch = readingAt a b (distanceOf latch (b .local))
+
+-- z is the units of a grand time: no less than 0, and below 2^80
+abbrev pub isGrand : ℤ → Bool
+isGrand (pos n) = ltb n grandEnd
+isGrand (negsuc n) = false
+
+-- the ends of the chosen clock's samples
+abbrev pub chosenEnds : Bridge → Ends
+chosenEnds b = endsOf (chosenSamples b)
+
+-- 2 unless the latch is a local time, 10 unless a clock is chosen, 11 unless it has two samples, 12 unless the latch lies within reach of the newer one,
+-- 13 unless the reading is a grand time, or 0
+unfoldable pub stampRefusal : Bridge → ℕ → ℕ
+stampRefusal b latch =
+    unless (ltb latch circle) outOfRange
+    (unless (isClock (chosenOf b)) noClock
+    (unless (hasEnds (chosenEnds b)) fewSamples
+    (unless (leb (natAbs (distanceFrom (chosenEnds b) (latched latch))) longestReach) tooFar
+    (unless (isGrand (readingFrom (chosenEnds b) (latched latch))) beyondRange done))))
+
+-- the grand time whose units are the reading
+unfoldable pub stampGiven : Bridge → ℕ → GrandTime
+stampGiven b latch = grandOf (natAbs (readingFrom (chosenEnds b) (latched latch)))

@@ -1,3 +1,4 @@
+pub mod Chain
 pub mod Refusals
 pub mod Order
 pub mod Literals

@@ -53,11 +53,11 @@ pub fn given(form: Form) -> Setup
         n: value::byte(form, 0),
         sender: Sender {
             mac: replay_frames::mac(bytes),
-            back: value::number_or(form, 5, bridge::DEFAULT_BACK),
+            back: value::number_or(form, 5, bridge::default_back()),
         },
         own: replay_frames::precedence(bytes),
         capable: form.numbers[3] == CAPABLE,
-        timeout: value::number_or(form, 4, bridge::DEFAULT_TIMEOUT),
+        timeout: value::number_or(form, 4, bridge::default_timeout()),
         settings: settings(form),
     }
 }

@@ -3,3 +3,4 @@ pub mod Chain
 pub mod Jitter
 pub mod SentLaws
 pub mod PpmLaws
+pub mod DriftLaws

@@ -14,8 +14,7 @@ use lib.Ieee.Back.{round-whole}
 use lib.Ieee.Fits.{down-pos}
 use lib.Ieee.Scale.{round-same}
 use Rattle.samples.specs.Rate.{parts, steepest}
-use Rattle.timeline.specs.Drift.{million, ppmOf, driftNo}
-use Rattle.timeline.specs.declared.Drift.the-variants.{NoReading, PartsPerMillion, Refused}
+use Rattle.timeline.specs.Drift.{million, ppmOf}
 use Rattle.numbers.proofs.Ring.{natAbs-*}
 
 -- ---- nothing is rounded
@@ -84,8 +83,3 @@ ppm-is r h =
     quotient-is (ofInt binary64 z) (not (nonNeg z)) (natAbs z) (whole-exact z (ppm-small r h))
     ∙ ap (λ (b : Bool). round binary64 (not b) (natAbs z) parts) (sign-kept r million (lit< tt))
     ∙ ap (λ (n : ℕ). round binary64 (not (nonNeg r)) n parts) (natAbs-* r (pos million))
-
--- ---- the numbers of the answers
-
-pub drift-numbers : (x : Float) → (driftNo NoReading ≡ 0) × (driftNo (PartsPerMillion x) ≡ 0) × (driftNo Refused ≡ 2)
-drift-numbers x = (refl, refl, refl)

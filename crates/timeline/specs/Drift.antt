@@ -39,3 +39,8 @@ abbrev pub driftReading : Drift → Option Float
 driftReading NoReading = none
 driftReading (PartsPerMillion x) = some x
 driftReading Refused = none
+
+-- the reading by the two ends of a clock's samples: none of too few, else the rate between them in parts per million
+abbrev pub readingThrough : Ends → Option Float
+readingThrough Few = none
+readingThrough (Both a b) = some (ppmOf (rateBetween a b))

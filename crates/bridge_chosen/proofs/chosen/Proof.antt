@@ -63,7 +63,7 @@ candidate-requires : tie.Need-candidate-requires
 candidate-requires c κs = (_, chosen-rank c)
 
 returns : tie.Need-returns
-returns c = chosen-out _ _ (c .candidate .ensures ∙ rank-candidate (chosen-rank (c .before)))
+returns c = let rank = chosen-rank (c .before) in chosen-out _ _ (rank .fits) (c .candidate .ensures ∙ rank-candidate rank)
 
 pub chosen-spec : {M : Type 1} → statement M
 chosen-spec =

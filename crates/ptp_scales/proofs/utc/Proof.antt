@@ -1,7 +1,7 @@
 -- The second or the refusal, of this scale.
 use mathlib.Core.Path.{sym, _∙_}
 use borrow.Author.Needs.{needs}
-use Rattle.ptp.proofs.PromiseLaws.{promised}
+use Rattle.ptp.proofs.PromiseLaws.{utc-out}
 use Rattle.ptp.proofs.ScaleLaws.{leap-same, utc-by}
 use Rattle.ptp_scales.proofs.utc.Statement.{statement}
 use Rattle.ptp_scales.proofs.utc.Tie as tie
@@ -13,5 +13,5 @@ utc-spec =
     (λ c κs. search needs)
     (λ c. search needs)
     (λ c. search needs)
-    (λ c. promised _ _ _ (utc-by _ (leap-same _ (c .before .before .before .before .fits .leap)) (sym (c .before .n .given .1) ∙ c .before .before .before .on-scale .ensures)))
-    (λ c. promised _ _ _ (utc-by _ (leap-same _ (c .before .before .before .before .fits .leap)) (sym (c .before .no .given .1) ∙ c .before .before .before .on-scale .ensures))))
+    (λ c. utc-out _ _ (utc-by _ (leap-same _ (c .before .before .before .before .fits .leap)) (sym (c .before .n .given .1) ∙ c .before .before .before .on-scale .ensures)))
+    (λ c. utc-out _ _ (utc-by _ (leap-same _ (c .before .before .before .before .fits .leap)) (sym (c .before .no .given .1) ∙ c .before .before .before .on-scale .ensures))))

@@ -17,7 +17,8 @@ use Rattle.recorder.specs.Promises.{StampPromise}
 use Rattle.recorder.specs.declared.Stamped.{Stamped}
 use Rattle.bridge.proofs.TableLaws.{samples-own}
 use Rattle.bridge.proofs.StateLaws.{NoneBelow, chosen-number, last-port, record-lawful, record-samples}
-use Rattle.recorder.proofs.StampLaws.{stamp-off, stamp-by, stamp-out}
+use Rattle.recorder.proofs.StampLaws.{stamp-off, stamp-by}
+use Rattle.recorder.proofs.PromiseLaws.{stamp-out}
 use Rattle.recorder_stamp.proofs.stamp.Statement.{statement}
 use Rattle.recorder_stamp.proofs.stamp.Tie as tie
 

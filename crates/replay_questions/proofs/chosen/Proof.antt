@@ -1,5 +1,6 @@
 -- What is shown of the choice.
-use mathlib.Core.Path.{_∙_}
+use mathlib.Core.Path.{ap, _∙_}
+use Rattle.choice.specs.Choose.{shownPort, shownHop}
 use Rattle.columns.specs.Columns.{line2}
 use Rattle.columns.proofs.ColumnLaws.{as-prints}
 use borrow.Author.Needs.{needs}
@@ -11,7 +12,8 @@ returns c =
     let h = c .before .before .before .before in
     let p = h .before in
     let d = p .before in
-    as-prints (λ i. line2 ((p .shown-port .ensures ∙ d .chosen .ensures .port) i) ((h .shown-hop .ensures ∙ d .chosen .ensures .hop) i))
+    let said = d .chosen .ensures .answer in
+    as-prints (λ i. line2 ((p .shown-port .ensures ∙ ap shownPort said) i) ((h .shown-hop .ensures ∙ ap shownHop said) i))
     (c .before .before .two .ensures)
 
 pub chosen-spec : {M : Type 1} → statement M
