@@ -15,7 +15,7 @@ use Rattle.times.specs.declared.LocalTime.{LocalTime}
 use Rattle.timeline.specs.Sent.{reachOf, sentOf}
 use Rattle.timeline.specs.declared.Sent.{Sent}
 use Rattle.timeline.specs.declared.Sent.the-variants.{At, Few, Late, Beyond}
-use Rattle.timeline.specs.Line.{NearLine}
+use Rattle.timeline.specs.Line.{bound, NearLine}
 use Rattle.choice.specs.declared.Precedence.{Precedence}
 use Rattle.choice.specs.declared.Candidate.the-variants.{Clock}
 use Rattle.frame.specs.Frame.{frameLength}
@@ -36,7 +36,7 @@ use Rattle.bridge.specs.declared.Bridge.{Bridge}
 use Rattle.bridge.specs.declared.Done.{Done}
 use Rattle.timeline.proofs.SentLaws.{sent-near}
 use Rattle.frame.proofs.Trip.{grand-bytes, hop-byte, count-byte}
-use Rattle.port.proofs.PortLaws.{ReadOff, send-by, sending-read-off, sending-written}
+use Rattle.port.proofs.PortLaws.{ReadOff, send-by, sending-frame, sending-read-off, sending-written}
 use Rattle.bridge.proofs.CheckLaws.{Ready, send-ready}
 use Rattle.bridge.proofs.TableLaws.{chosen-lawful}
 use Rattle.bridge.proofs.StateLaws.{if-both}
@@ -48,29 +48,33 @@ record Wrote (b : Bridge) (port t : ℕ) (out left : List ℕ) : Type 0 where
   pub sending : sendingAt b (port - 1) (record { 0 = t }) ≡ Frame fields
   pub bytes : left ≡ bytesOf fields (drop frameLength out)
   pub count : fields .count ≡ portAt (b .ports) (port - 1) .count
-  pub read : ReadOff (chosenSamples b) (record { 0 = t }) (b .setup .sender .back) fields
 
 wrote : (b : Bridge) (port t : ℕ) (out : List ℕ) → sendOf b port t (length out) .answer ≡ 0 → Wrote b port t out (sendBytes b port t out)
 unfolding sendOf sendBytes sendingAt
 wrote b port t out =
     if-both (λ (d : Done) (left : List ℕ). d .answer ≡ 0 → Wrote b port t out left) (eqb (sendRefusal (b .setup .n) (b .links) port t (length out)) 0)
     (λ q z.
-    let f = sending-read-off (chosenOf b) (chosenSamples b) (b .setup .sender) (record { 0 = t }) (portAt (b .ports) (port - 1)) z in
+    let f = sending-frame (chosenOf b) (chosenSamples b) (b .setup .sender) (record { 0 = t }) (portAt (b .ports) (port - 1)) z in
     record {
       fields = f .0;
       ready = send-ready (b .setup .n) (b .links) port t (length out) (eqb-true _ _ q);
       sending = f .1;
       bytes = ap (λ (x : Sending). sendingBytes x out) (f .1);
       count = f .2;
-      read = f .3;
     })
     (λ q z. absurd (eqb-false _ _ q z))
+
+-- such a frame's grand time and errorTime are read off the chosen clock's samples
+wrote-read-off : {b : Bridge} {port t : ℕ} {out left : List ℕ} (w : Wrote b port t out left) → ReadOff (chosenSamples b) (record { 0 = t }) (b .setup .sender .back) (w .fields)
+unfolding sendingAt
+wrote-read-off {b} {port} {t} w =
+    sending-read-off (chosenOf b) (chosenSamples b) (b .setup .sender) (record { 0 = t }) (portAt (b .ports) (port - 1)) (w .fields) (w .sending)
 
 -- DEMAND 3
 pub sent-frame-near : (b : Bridge) (port t : ℕ) (out : List ℕ) → Lawful b → sendOf b port t (length out) .answer ≡ 0 → OnLine b t (sendBytes b port t out)
 sent-frame-near b port t out h e =
     let w = wrote b port t out e in
-    let r = w .read in
+    let r = wrote-read-off w in
     let f = w .fields in
     let lawful = chosen-lawful (chosenOf b) (b .clock) (b .ports) (h .clock-lawful) (h .ports-lawful) in
     let number : units (f .grand) ≡ numberAt (sendBytes b port t out) grandStart grandBytes =
@@ -80,7 +84,7 @@ sent-frame-near b port t out h e =
       newer = r .newest;
       kept = r .kept;
       near =
-          subst (λ (n : ℕ). NearLine (r .oldest) (r .newest) (pos n) (reachOf (sinceOf (record { 0 = t }) (r .newest .local)) (b .setup .sender .back)) (b .setup .sender .back)) number
+          subst (λ (n : ℕ). NearLine bound (r .oldest) (r .newest) (pos n) (reachOf (sinceOf (record { 0 = t }) (r .newest .local)) (b .setup .sender .back)) (b .setup .sender .back)) number
           (sent-near (chosenSamples b) (record { 0 = t }) (b .setup .sender .back) (f .grand) (f .error) r lawful (h .back-small));
     }
 

@@ -17,7 +17,7 @@ use Rattle.samples.specs.Keep.{endsOf, rateBetween}
 use Rattle.samples.specs.declared.Sample.{Sample}
 use Rattle.samples.specs.declared.Ends.the-variants.{Both}
 use Rattle.timeline.specs.Sent.{reachOf}
-use Rattle.timeline.specs.Line.{NearLine}
+use Rattle.timeline.specs.Line.{bound, NearLine}
 use Rattle.timeline.specs.Drift.{million, driftNo}
 use Rattle.timeline.specs.declared.Drift.{Drift}
 use Rattle.choice.specs.Hop.{lastHop}
@@ -110,7 +110,7 @@ pub record OnLine (b : Bridge) (t : ℕ) (bytes : List ℕ) : Type 0 where
   pub older : Sample
   pub newer : Sample
   pub kept : endsOf (chosenSamples b) ≡ Both older newer
-  pub near : NearLine older newer (pos (numberAt bytes grandStart grandBytes)) (reachOf (sinceOf (record { 0 = t }) (newer .local)) (b .setup .sender .back)) (b .setup .sender .back)
+  pub near : NearLine bound older newer (pos (numberAt bytes grandStart grandBytes)) (reachOf (sinceOf (record { 0 = t }) (newer .local)) (b .setup .sender .back)) (b .setup .sender .back)
 
 -- ---- drift
 

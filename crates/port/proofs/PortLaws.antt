@@ -204,17 +204,26 @@ sending-written choice samples sender t port room f ht l r =
     echo-small Unset q = (omega arith, omega arith)
     echo-small (Set a b) q = q
 
+-- where the answer is 0 there is a frame, with the port's next frameCount
+pub sending-frame : (choice : Candidate) (samples : Samples) (sender : Sender) (t : LocalTime) (port : Port) → sendingNo (sendingOf choice samples sender t port) ≡ 0
+    → (f : Fields) × (sendingOf choice samples sender t port ≡ Frame f) × (f .count ≡ port .count)
+sending-frame choice samples sender t port =
+    sending-is choice samples sender t port (λ (s : Sending). sendingNo s ≡ 0 → (f : Fields) × (s ≡ Frame f) × (f .count ≡ port .count))
+    (λ k l _ e. absurd (omega arith))
+    (λ p h g x _ _. (frameOf sender p h t g x port, refl, refl))
+
 -- a frame is sent only off two samples, with the grand time and errorTime read off them
 abbrev pub ReadOff : Samples → LocalTime → ℕ → Fields → Type 0
 ReadOff samples t back f = Departure samples t back (f .grand) (f .error)
 
-pub sending-read-off : (choice : Candidate) (samples : Samples) (sender : Sender) (t : LocalTime) (port : Port)
-    → sendingNo (sendingOf choice samples sender t port) ≡ 0
-    → (f : Fields) × (sendingOf choice samples sender t port ≡ Frame f) × (f .count ≡ port .count) × ReadOff samples t (sender .back) f
-sending-read-off choice samples sender t port =
-    sending-is choice samples sender t port (λ (s : Sending). sendingNo s ≡ 0 → (f : Fields) × (s ≡ Frame f) × (f .count ≡ port .count) × ReadOff samples t (sender .back) f)
-    (λ k l _ e. absurd (omega arith))
-    (λ p h g x q _. let f = frameOf sender p h t g x port in (f, refl, refl, departure samples t (sender .back) g x q))
+pub sending-read-off : (choice : Candidate) (samples : Samples) (sender : Sender) (t : LocalTime) (port : Port) (f : Fields)
+    → sendingOf choice samples sender t port ≡ Frame f → ReadOff samples t (sender .back) f
+sending-read-off choice samples sender t port f =
+    sending-is choice samples sender t port (λ (s : Sending). s ≡ Frame f → ReadOff samples t (sender .back) f)
+    (λ k _ _ e. let z : _≡_ {A = ℕ} 0 1 = cc in absurd (omega arith))
+    (λ p h g x q e.
+    let same : frameOf sender p h t g x port ≡ f = cc in
+    subst (ReadOff samples t (sender .back)) same (departure samples t (sender .back) g x q))
 
 -- the times of a frame that was read are in range
 pub read-in-range : (s : List ℕ) (f : Fields) → Bytes s → readOf s ≡ Frames.Frame f → FieldsInRange f

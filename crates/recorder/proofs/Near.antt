@@ -39,8 +39,8 @@ chosen-ends b older newer h =
     ends-lawful (chosenSamples b) older newer (chosen-lawful (chosenOf b) (b .clock) (b .ports) (h .clock-lawful) (h .ports-lawful))
 
 -- near the line, with nothing added to the reading
-near-alone : (a b : Sample) (z x : ℤ) → natAbs (pos (spreadOf a b) *ℤ z -ℤ lineAt a b x) < bound * spreadOf a b → NearLine a b z x 0
-near-alone a b z x h = rw (*ℤ-zero (pos (spreadOf a b)), +ℤ-idr (lineAt a b x)) h
+near-alone : (k : ℕ) (a b : Sample) (z x : ℤ) → natAbs (pos (spreadOf a b) *ℤ z -ℤ lineAt a b x) < k * spreadOf a b → NearLine k a b z x 0
+near-alone k a b z x h = rw (*ℤ-zero (pos (spreadOf a b)), +ℤ-idr (lineAt a b x)) h
 
 pub stamp-near : (b : Bridge) (latch : ℕ) (g : GrandTime) → Lawful b → stampOf b latch ≡ At g → StampOnLine b latch g
 stamp-near b latch g h e =
@@ -51,7 +51,7 @@ stamp-near b latch g h e =
       newer = r .newer;
       kept = r .kept;
       near =
-          near-alone (r .older) (r .newer) (pos (units g)) x
+          near-alone bound (r .older) (r .newer) (pos (units g)) x
           (subst (λ (z : ℤ). natAbs (pos (spreadOf (r .older) (r .newer)) *ℤ z -ℤ lineAt (r .older) (r .newer) x) < bound * spreadOf (r .older) (r .newer)) (sym (r .time))
           (reading-near (r .older) (r .newer) x (chosen-ends b (r .older) (r .newer) h (r .kept)) (r .reach)));
     }
