@@ -5,9 +5,10 @@ pub mod StateLaws
 pub mod Keeps
 pub mod PromiseLaws
 pub mod Refused
-pub mod Line
 pub mod Least
 pub mod Choosing
+pub mod Sent
+pub mod Line
 pub mod Records
 pub mod Counts
 pub mod Hops

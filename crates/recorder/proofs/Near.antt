@@ -6,7 +6,7 @@ use Prim.Native.Nat.{ℕ, _+_, _*_, _<_}
 use native.Mathlib.Nat.{lt-of-mul-lt-mul-left}
 use native.Mathlib.Omega.{arith}
 use lib.IntN.{ℤ, pos, negℤ, natAbs, _+ℤ_, _-ℤ_, _*ℤ_, *ℤ-zero, +ℤ-idr}
-use Rattle.times.specs.Times.{circle, sinceOf, units}
+use Rattle.times.specs.Times.{sinceOf, units}
 use Rattle.times.specs.declared.LocalTime.{LocalTime}
 use Rattle.times.specs.declared.GrandTime.{GrandTime}
 use Rattle.samples.specs.Rate.{scaledOf}
@@ -81,14 +81,14 @@ since-itself a = omega arith
 no-distance : (a : LocalTime) → distanceOf a a ≡ pos 0
 no-distance a = onward a a (omega (arith, since-itself a)) ∙ ap pos (since-itself a)
 
-pub stamp-at-newer : (b : Bridge) (older newer : Sample) → Lawful b → endsOf (chosenSamples b) ≡ Both older newer → newer .local .0 < circle
-    → stampOf b (newer .local .0) ≡ At (newer .grand)
-stamp-at-newer b older newer h e l =
+pub stamp-at-newer : (b : Bridge) (older newer : Sample) → Lawful b → endsOf (chosenSamples b) ≡ Both older newer → stampOf b (newer .local .0) ≡ At (newer .grand)
+stamp-at-newer b older newer h e =
+    let w = chosen-ends b older newer h e .newest in
     sym
     (through-as (newer .local) {e = Both older newer} (λ i. Both older newer) (rw (no-distance (newer .local)) (omega arith))
-    (moment-at (newer .grand) _ (chosen-ends b older newer h e .newest) (sym (ap (readingAt older newer) (no-distance (newer .local)) ∙ reading-newer older newer)))
+    (moment-at (newer .grand) _ (w .grand) (sym (ap (readingAt older newer) (no-distance (newer .local)) ∙ reading-newer older newer)))
     ∙ chosen-through b older newer (newer .local) e
-    ∙ stamp-by b (newer .local .0) l (λ i. chosenOf b))
+    ∙ stamp-by b (newer .local .0) (w .local) (λ i. chosenOf b))
 
 -- the older sample lies a spread before the newer one
 distance-older : (a b : Sample) → LawfulEnds a b → distanceOf (a .local) (b .local) ≡ negℤ (pos (spreadOf a b))

@@ -63,7 +63,7 @@ rate-between-requires c κs = lawful (found (c .before))
 reading-requires : tie.Need-reading-requires
 reading-requires c κs =
     let w = lawful (found (measured c)) in
-    (w .newest, (rw (rate-is c) (between-small _ _ w), rw (distance-is (measured c)) (reach-alone _ (within c))))
+    (w .newest .grand, (rw (rate-is c) (between-small _ _ w), rw (distance-is (measured c)) (reach-alone _ (within c))))
 
 moment-is : (c : tie.After-reading) →
     let m = found (measured (c .before)) in

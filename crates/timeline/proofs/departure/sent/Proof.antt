@@ -59,7 +59,7 @@ reading-requires : tie.Need-reading-requires
 reading-requires c κs =
     let m = found c in
     let w = lawful m in (
-      w .newest,
+      w .newest .grand,
       (rw (rate-is c) (between-small (oldest m) (newest m) w), rw (reach-is c) (in-reach (oldest m) (newest m) _ _ (soon c) (m .before .before .before .pre .1))),
     )
 
