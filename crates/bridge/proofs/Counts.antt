@@ -32,7 +32,7 @@ use Rattle.numbers.proofs.Branches.{if-when}
 use Rattle.port.proofs.PortLaws.{received-count, aged-count}
 use Rattle.bridge.proofs.StateLaws.{if-both}
 use Rattle.bridge.proofs.Records.{replaced, each-record, record-run}
-use Rattle.bridge.proofs.Line.{sent-frame-count}
+use Rattle.bridge.proofs.Sent.{wrote, wrote-count}
 
 -- ---- what each call leaves of the next frameCount
 
@@ -74,9 +74,9 @@ module _ (b : Bridge) (i n : ℕ) (h : i < length (b .ports)) (u : portAt (b .po
   after-count : (c : Call) → portAt (after b c .ports) i .count ≡ usedBy i b c n % 256
   unfolding ownClockOf ageOf
   after-count (links mask) = links-count mask
-  after-count (own-clock count seconds fraction at) =
+  after-count (own-clock count byte seconds fraction at) =
       if-when (λ (d : Done). portAt (d .next .ports) i .count ≡ n % 256) (eqb (ownClockRefusal (b .setup .capable) seconds fraction at) 0) (λ _. u) (λ _. u)
-  after-count (receive port frame arrival) = receive-count port frame arrival
+  after-count (receive port frame bytes arrival) = receive-count port frame arrival
   after-count (age at) =
       if-when (λ (d : Done). portAt (d .next .ports) i .count ≡ n % 256) (leb circle at) (λ _. u)
       (λ _. ap countOf (each-record (λ _. agedPort (record { 0 = at }) (b .setup .timeout)) (b .ports) i h)
@@ -94,4 +94,4 @@ sent-count s cs port t out h e =
     let b = setupOf s .next in
     let i = port - 1 in
     let c = record-run i (usedBy i) (λ (n : ℕ) (p : Port). p .count ≡ n % 256) (λ b c n l u. after-count b i n l u c) s cs 0 h refl in
-    sent-frame-count (run b cs) port t out (omega (arith, c)) e ∙ c
+    wrote-count (wrote (run b cs) port t out e) (omega (arith, c)) ∙ c

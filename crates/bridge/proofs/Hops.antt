@@ -8,7 +8,7 @@ use Prim.Native.Nat.{ℕ, suc, _-_, _<_}
 use native.Mathlib.Omega.{arith}
 use borrow.Author.Tests.{eqb-true, eqb-false}
 use lib.Dec.{eqb, leb}
-use lib.ListN.{length, set}
+use lib.ListN.{length, take, set}
 use lib.Seq.{getD-set-same, getD-set-other}
 use Rattle.numbers.specs.Bytes.{Bytes}
 use Rattle.refusals.specs.Refusals.{lastHopHeard}
@@ -17,15 +17,16 @@ use Rattle.times.specs.declared.LocalTime.{LocalTime}
 use Rattle.choice.specs.Hop.{lastHop, hopOf}
 use Rattle.choice.specs.declared.Announcement.{Announcement}
 use Rattle.choice.specs.declared.Announcement.the-variants.{Silent, Announced}
+use Rattle.choice.specs.declared.Precedence.{Precedence}
 use Rattle.choice.specs.declared.Candidate.{Candidate}
 use Rattle.choice.specs.declared.Candidate.the-variants.{Nothing, Clock}
-use Rattle.frame.specs.Frame.{fieldsOf}
+use Rattle.frame.specs.Frame.{frameLength, fieldsOf}
 use Rattle.frame.specs.Read.{rowsOf, readRefusal, readOf}
 use Rattle.frame.specs.declared.Fields.{Fields}
 use Rattle.frame.specs.declared.Reading.{Reading}
 use Rattle.frame.specs.declared.Reading.the-variants as Readings
 use Rattle.port.specs.Record.{emptyPort, agedPort}
-use Rattle.port.specs.Receive.{receivedOf}
+use Rattle.port.specs.Receive.{notedPort, receivedOf}
 use Rattle.port.specs.declared.Setting.{Setting}
 use Rattle.port.specs.declared.Port.{Port}
 use Rattle.port.specs.declared.PortDone.{PortDone}
@@ -33,7 +34,7 @@ use Rattle.choice.specs.Choose.{numberOf}
 use Rattle.bridge.specs.Table.{portAt, mostPorts, relinkedPort}
 use Rattle.bridge.specs.Arguments.{bit, portRefusal, sendRefusal, ownClockRefusal, maskBeyond}
 use Rattle.bridge.specs.declared.Setup.{Setup}
-use Rattle.bridge.specs.State.{Lawful, withPort}
+use Rattle.bridge.specs.State.{TypedSetup, Lawful, withPort, answers, storesPort}
 use Rattle.bridge.specs.Setup.{setupOf}
 use Rattle.bridge.specs.Links.{linksOf}
 use Rattle.bridge.specs.Own.{ownClockOf}
@@ -46,16 +47,16 @@ use Rattle.bridge.specs.declared.Bridge.{Bridge}
 use Rattle.bridge.specs.declared.Done.{Done}
 use Rattle.bridge.specs.declared.Linked.{Linked}
 use Rattle.numbers.proofs.Branches.{if-when}
-use Rattle.numbers.proofs.Places.{number-at-small}
 use Rattle.choice.proofs.HopLaws.{hop-rises, hop-within}
-use Rattle.frame.proofs.FrameLaws.{accepted, reading, read-number, framed}
+use Rattle.frame.proofs.FrameLaws.{read-number, framed}
 use Rattle.frame.proofs.Trip.{hop-number}
-use Rattle.port.proofs.PortLaws.{aged-is, received-is, received-last-hop}
+use Rattle.port.proofs.PortLaws.{aged-is, received-is, received-last-hop, read-in-range}
 use Rattle.bridge.proofs.CheckLaws.{Ready, port-ready}
-use Rattle.bridge.proofs.StateLaws.{receive-read, chosen-number}
+use Rattle.bridge.proofs.StateLaws.{receive-read, receive-stores, chosen-number}
 use Rattle.bridge.proofs.Refused.{receive-answers}
 use Rattle.bridge.proofs.Records.{replaced, each-record, eight-records, record-run}
-use Rattle.bridge.proofs.Line.{sent-frame-hop}
+use Rattle.bridge.proofs.Keeps.{setup-lawful, run-lawful}
+use Rattle.bridge.proofs.Sent.{wrote, wrote-hop, sent-frame-read, sent-frame-received}
 use Rattle.bridge.proofs.Least.{chosen-announced}
 
 -- ---- a frame that is taken
@@ -68,12 +69,10 @@ record Holds (f : Fields) (at : LocalTime) (port : Port) : Type 0 where
 
 holds : (setting : Setting) (chosen : ℕ) (f : Fields) (at : LocalTime) (port : Port) → receivedOf setting chosen f at port .answer ≡ 0
     → Holds f at (receivedOf setting chosen f at port .port)
-holds setting chosen f at port z =
-    let seven : f .hop ≡ lastHop → 7 ≡ receivedOf setting chosen f at port .answer = λ e. ap (λ (d : PortDone). d .answer) (received-last-hop setting chosen f at port e) in
+holds setting chosen f at port =
     received-is setting chosen f at port (λ (d : PortDone). d .answer ≡ 0 → Holds f at (d .port))
     (λ k l _ e. absurd (omega arith))
-    (λ count p delay _ _. record { chosen = chosen; not-last = λ e. absurd (omega (arith, seven e, z)); announced = refl })
-    z
+    (λ count p delay other _ _. record { chosen = chosen; not-last = other; announced = refl })
 
 -- what a receive that answers 0 did: the frame was read, and the port's record holds it
 record Took (b : Bridge) (port : ℕ) (frame : List ℕ) (arrival : ℕ) (next : Bridge) : Type 0 where
@@ -111,9 +110,7 @@ held-above {b} {port} {frame} {arrival} {next} t l bytes =
     let f = t .fields in
     let chosen = t .held .chosen in
     let same = hop-number frame f (t .read) in
-    let long = accepted frame (reading frame f (t .read) .0) .sized in
-    let small = number-at-small frame bytes 29 1 (omega (arith, long)) in
-    let low : f .hop < lastHop = omega (arith, same, small, t .held .not-last) in
+    let low : f .hop < lastHop = omega (arith, read-in-range frame f bytes (t .read) .typed .hop, t .held .not-last) in
     record {
       fields = f;
       read = t .read;
@@ -132,7 +129,7 @@ pub taken-rises : (b : Bridge) (port : ℕ) (frame : List ℕ) (arrival : ℕ) �
     → HeldAbove frame (portAt (receiveOf b port frame arrival .next .ports) (port - 1) .announcement)
 taken-rises b port frame arrival h bytes e =
     let t = took b port frame arrival e in
-    held-above t (omega (arith, t .ready .low, t .ready .high, h .ports-most, h .records)) bytes
+    held-above t (omega (arith, t .ready .low, t .ready .high, h .setup-lawful .ports-most, h .records)) bytes
 
 -- a frame with the last hop goes no farther: every station that reads it refuses it with 7
 pub last-hop-refused : (b : Bridge) (port : ℕ) (frame : List ℕ) (arrival : ℕ) (f : Fields) → readOf frame ≡ Readings.Frame f → hopAt frame ≡ lastHop
@@ -142,11 +139,25 @@ last-hop-refused b port frame arrival f read last clear =
     ap (λ (d : Done). d .answer) (sym (receive-read b port frame arrival 0 (sym clear) (Readings.Frame f) refl (sym read)))
     ∙ ap (λ (d : PortDone). d .answer) (sym (received-last-hop _ _ f (record { 0 = arrival }) _ (hop-number frame f read ∙ last)))
 
+-- Send here and Receive there: where Send answers 0 for a clock that is held at the last hop, the station to which its 64 bytes come, at a port with a
+-- link and a local time in range, refuses them with 7, and stores their frameCount and arrival and nothing else
+pub sent-last-hop-refused : (b : Bridge) (port t : ℕ) (out : List ℕ) (there : Bridge) (at arrival : ℕ) {p : Precedence} {n : ℕ}
+    → Lawful b → chosenOf b ≡ Clock p lastHop n → sendOf b port t (length out) .answer ≡ 0 → portRefusal (there .setup .n) (there .links) at arrival ≡ 0
+    → receiveOf there at (take frameLength (sendBytes b port t out)) arrival
+    ≡ answers lastHopHeard (withPort there (at - 1) (notedPort (portAt (b .ports) (port - 1) .count) (record { 0 = arrival }) (portAt (there .ports) (at - 1))))
+sent-last-hop-refused b port t out there at arrival {p} {n} h c e clear =
+    let r = sent-frame-read b port t out h e in
+    let both : Clock (r .precedence) (r .hop) (r .number) ≡ Clock p lastHop n = sym (r .chosen) ∙ c in
+    let last : r .hop ≡ lastHop = cc in
+    sent-frame-received b port t out h e there at arrival _ (r .read) clear
+    ∙ sym (receive-stores there (at - 1) _ (record { 0 = arrival }))
+    ∙ ap (storesPort there (at - 1)) (sym (received-last-hop _ _ _ (record { 0 = arrival }) _ last))
+
 -- ---- what each call leaves of an announcement
 
 -- what a port announces is the frame that it took last, or nothing
 abbrev Announces : List ℕ → Announcement → Type 0
-Announces last announcement = (announcement ≡ Silent) ⊎ (Bytes last → HeldAbove last announcement)
+Announces last announcement = (announcement ≡ Silent) ⊎ HeldAbove last announcement
 
 -- the same of the port at index i in a state
 abbrev AnnouncesAt : List ℕ → Bridge → ℕ → Type 0
@@ -175,10 +186,10 @@ module _ (b : Bridge) (i : ℕ) (last : List ℕ) (h : i < length (b .ports)) (u
   replaced-announces j p e = subst (Announces last) (sym (replaced announcementOf (b .ports) j p e i)) u
 
   -- a frame that is taken at this port
-  here-announces : (port : ℕ) (frame : List ℕ) (arrival : ℕ) → receiveOf b port frame arrival .answer ≡ 0 → port - 1 ≡ i
+  here-announces : (port : ℕ) (frame : List ℕ) (arrival : ℕ) → Bytes frame → receiveOf b port frame arrival .answer ≡ 0 → port - 1 ≡ i
       → AnnouncesAt frame (receiveOf b port frame arrival .next) i
-  here-announces port frame arrival e here =
-      inr (λ bytes. subst (λ (j : ℕ). HeldAbove frame (portAt (receiveOf b port frame arrival .next .ports) j .announcement)) here
+  here-announces port frame arrival bytes e here =
+      inr (subst (λ (j : ℕ). HeldAbove frame (portAt (receiveOf b port frame arrival .next .ports) j .announcement)) here
       (held-above (took b port frame arrival e) (omega (arith, here, h)) bytes))
 
   -- and one that is taken at another
@@ -200,22 +211,22 @@ module _ (b : Bridge) (i : ℕ) (last : List ℕ) (h : i < length (b .ports)) (u
       (λ r. subst (λ (x : Bridge). AnnouncesAt last x i) (sym (r .1 .2)) (replaced-announces (port - 1) _ refl)))
       (receive-answers b port frame arrival)
 
-  receive-announces : (port : ℕ) (frame : List ℕ) (arrival : ℕ)
-      → AnnouncesAt (takenBy i b (receive port frame arrival) last) (receiveOf b port frame arrival .next) i
-  receive-announces port frame arrival =
+  receive-announces : (port : ℕ) (frame : List ℕ) (bytes : Bytes frame) (arrival : ℕ)
+      → AnnouncesAt (takenBy i b (receive port frame bytes arrival) last) (receiveOf b port frame arrival .next) i
+  receive-announces port frame bytes arrival =
       let Left : List ℕ → Type 0 = λ (x : List ℕ). AnnouncesAt x (receiveOf b port frame arrival .next) i in
       if-when Left _
       (λ q. if-when Left _
-      (λ s. here-announces port frame arrival (eqb-true _ _ q) (eqb-true _ _ s))
+      (λ s. here-announces port frame arrival bytes (eqb-true _ _ q) (eqb-true _ _ s))
       (λ s. elsewhere-announces port frame arrival (eqb-true _ _ q) (eqb-false _ _ s)))
       (λ q. refused-announces port frame arrival (eqb-false _ _ q))
 
   after-announces : (c : Call) → AnnouncesAt (takenBy i b c last) (after b c) i
   unfolding ownClockOf sendOf
   after-announces (links mask) = links-announces mask
-  after-announces (own-clock count seconds fraction at) =
+  after-announces (own-clock count byte seconds fraction at) =
       if-when (λ (d : Done). AnnouncesAt last (d .next) i) (eqb (ownClockRefusal (b .setup .capable) seconds fraction at) 0) (λ _. u) (λ _. u)
-  after-announces (receive port frame arrival) = receive-announces port frame arrival
+  after-announces (receive port frame bytes arrival) = receive-announces port frame bytes arrival
   after-announces (age at) = age-announces at
   after-announces (send port t room) =
       if-when (λ (d : Done). AnnouncesAt last (d .next) i) (eqb (sendRefusal (b .setup .n) (b .links) port t room) 0)
@@ -234,8 +245,8 @@ run-announces s cs i h =
 pub passed-on : (s : Setup) (cs : List Call) (port t : ℕ) (out : List ℕ)
     → let b = run (setupOf s .next) cs in
     let heard = lastTaken (numberOf (chosenOf b) - 1) (setupOf s .next) cs in
-    0 < numberOf (chosenOf b) → Bytes heard → sendOf b port t (length out) .answer ≡ 0 → PassedOn b heard (sendBytes b port t out)
-passed-on s cs port t out l bytes e = go (chosenOf b) refl (omega arith)
+    0 < numberOf (chosenOf b) → sendOf b port t (length out) .answer ≡ 0 → PassedOn b heard (sendBytes b port t out)
+passed-on s cs port t out l e = go (chosenOf b) refl (omega arith)
   where
     b : Bridge
     b = run (setupOf s .next) cs
@@ -251,12 +262,12 @@ passed-on s cs port t out l bytes e = go (chosenOf b) refl (omega arith)
         let announced = chosen-announced b (q ∙ ap (Clock p h) n) .1 in
         let above = ⊎-elim
         (λ silent. let clash : _≡_ {A = ℕ} 0 1 = cc in absurd (omega arith))
-        (λ above. above bytes)
+        (λ above. above)
         (run-announces s cs i below) in
         let same = sym announced ∙ above .announced in
         let clock : p ≡ above .fields .precedence = cc in
         let held : h ≡ above .held = cc in
-        let sent : hopAt (sendBytes b port t out) ≡ h = sent-frame-hop b port t out q (omega (arith, held, above .within)) e in
+        let sent : hopAt (sendBytes b port t out) ≡ h = wrote-hop (wrote b port t out e) q (omega (arith, held, above .within)) in
         record {
           fields = above .fields;
           read = above .read;
@@ -264,3 +275,17 @@ passed-on s cs port t out l bytes e = go (chosenOf b) refl (omega arith)
           rises = omega (arith, above .rises, held, sent);
           within = omega (arith, above .within, held, sent);
         }
+
+-- a frame that comes with the hop before the last is passed on once more, and ends there: the neighbour refuses it with 7
+pub passed-on-refused : (s : Setup) (cs : List Call) (port t : ℕ) (out : List ℕ) (there : Bridge) (at arrival : ℕ)
+    → let b = run (setupOf s .next) cs in
+    TypedSetup s → 0 < numberOf (chosenOf b) → suc (hopAt (lastTaken (numberOf (chosenOf b) - 1) (setupOf s .next) cs)) ≡ lastHop
+    → sendOf b port t (length out) .answer ≡ 0 → portRefusal (there .setup .n) (there .links) at arrival ≡ 0
+    → receiveOf there at (take frameLength (sendBytes b port t out)) arrival .answer ≡ lastHopHeard
+passed-on-refused s cs port t out there at arrival typed l before e clear =
+    let b = run (setupOf s .next) cs in
+    let p = passed-on s cs port t out l e in
+    let last : hopAt (sendBytes b port t out) ≡ lastHop = omega (arith, p .rises, p .within, before) in
+    ap (λ (d : Done). d .answer)
+    (sent-last-hop-refused b port t out there at arrival (run-lawful (setupOf s .next) cs (setup-lawful s typed))
+    (p .chosen ∙ ap (λ (h : ℕ). Clock (p .fields .precedence) h (numberOf (chosenOf b))) last) e clear)

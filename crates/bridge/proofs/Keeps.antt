@@ -1,15 +1,15 @@
 -- Lawful is kept: Setup hands back a lawful state whatever it answers, and so does every call on a lawful state.
 use mathlib.Core.Path.{_≡_, refl, _∙_}
 use mathlib.Core.Bool.{_&&_}
-use mathlib.Core.List.{List}
+use mathlib.Core.List.{List, [], _∷_}
 use Prim.Native.Nat.{ℕ, zero, suc, _-_, _^_, _<_, _≤_}
 use native.Mathlib.Omega.{arith}
 use borrow.Author.Tests.{leb-true, leb-false, ltb-true, eqb-true}
-use lib.Dec.{leb, ltb, eqb}
+use lib.Dec.{leb, ltb, eqb, lit<, lit≤}
 use lib.ListN.{length, replicate, length-set}
 use lib.Pow.{pow-pos}
 use Rattle.numbers.specs.Bytes.{Bytes}
-use Rattle.times.specs.Times.{circle}
+use Rattle.times.specs.Times.{circle, counts}
 use Rattle.times.specs.declared.LocalTime.{LocalTime}
 use Rattle.timeline.specs.Sent.{longestElapsed}
 use Rattle.frame.specs.Read.{readOf}
@@ -22,15 +22,16 @@ use Rattle.port.specs.declared.Port.{Port}
 use Rattle.port.specs.declared.OwnClock.{OwnClock}
 use Rattle.bridge.specs.Table.{each, portAt, mostPorts, relinkedPort}
 use Rattle.bridge.specs.Arguments.{bit, portRefusal, sendRefusal, ownClockRefusal, maskBeyond}
-use Rattle.bridge.specs.Fits.{leastTimeout, greatestTimeout, setupFits, noSetup}
+use Rattle.bridge.specs.Fits.{leastTimeout, greatestTimeout, delaysFit, setupFits, noSetup}
 use Rattle.bridge.specs.declared.Setup.{Setup}
-use Rattle.bridge.specs.State.{Lawful, stateOf, withPort, withLinks}
+use Rattle.bridge.specs.State.{TypedSetup, LawfulSetup, Lawful, stateOf, withPort, withLinks}
 use Rattle.bridge.specs.Setup.{freshOf, setupOf}
 use Rattle.bridge.specs.Links.{linksOf}
 use Rattle.bridge.specs.Own.{ownClockOf}
 use Rattle.bridge.specs.Receive.{receiveFieldsOf, readBy, receiveOf}
 use Rattle.bridge.specs.Age.{ageOf}
 use Rattle.bridge.specs.Send.{sendOf}
+use Rattle.bridge.specs.Demands.{Call, links, own-clock, receive, age, send, after, run}
 use Rattle.bridge.specs.declared.Bridge.{Bridge}
 use Rattle.bridge.specs.declared.Done.{Done}
 use Rattle.bridge.specs.declared.Linked.{Linked}
@@ -48,32 +49,26 @@ LinkedNext d = Lawful (d .next)
 
 -- ---- a state by its parts
 
-parts-lawful : (s : Setup) (links : ℕ) (clock : OwnClock) (ports : List Port) → length (s .settings) ≡ mostPorts → s .n ≤ mostPorts → s .sender .back < longestElapsed
-    → links < 2 ^ s .n → LawfulClock clock → length ports ≡ mostPorts → ((i : ℕ) → LawfulPort (portAt ports i)) → Lawful (stateOf s links clock ports)
-parts-lawful s links clock ports hs hn hb hl hc hr hp = record {
-  records = hr;
-  delays = hs;
-  ports-most = hn;
+-- other links, another own clock and other records in a lawful state
+parts-kept : (b : Bridge) (mask : ℕ) (clock : OwnClock) (ports : List Port) → Lawful b → mask < 2 ^ b .setup .n → LawfulClock clock
+    → length ports ≡ length (b .ports) → ((i : ℕ) → LawfulPort (portAt ports i)) → Lawful (stateOf (b .setup) mask clock ports)
+parts-kept b mask clock ports h hl hc l hp = record {
+  setup-lawful = h .setup-lawful;
   links-most = hl;
-  back-small = hb;
   clock-lawful = hc;
+  records = l ∙ h .records;
   ports-lawful = hp;
 }
-
--- other links, another own clock and other records in a lawful state
-parts-kept : (b : Bridge) (links : ℕ) (clock : OwnClock) (ports : List Port) → Lawful b → links < 2 ^ b .setup .n → LawfulClock clock
-    → length ports ≡ length (b .ports) → ((i : ℕ) → LawfulPort (portAt ports i)) → Lawful (stateOf (b .setup) links clock ports)
-parts-kept b links clock ports h hl hc l hp = parts-lawful (b .setup) links clock ports (h .delays) (h .ports-most) (h .back-small) hl hc (l ∙ h .records) hp
 
 port-kept : (b : Bridge) (i : ℕ) (port : Port) → Lawful b → LawfulPort port → Lawful (withPort b i port)
 port-kept b i port h l =
     parts-kept b (b .links) (b .clock) _ h (h .links-most) (h .clock-lawful) (length-set (b .ports) i port)
     (set-all LawfulPort emptyPort empty-lawful (b .ports) i port l (h .ports-lawful))
 
-each-kept : (f : ℕ → Port → Port) (b : Bridge) (links : ℕ) → Lawful b → links < 2 ^ b .setup .n → ((k : ℕ) (p : Port) → LawfulPort p → LawfulPort (f k p))
-    → Lawful (withLinks b links (each f 0 (b .ports)))
-each-kept f b links h hl g =
-    parts-kept b links (b .clock) _ h hl (h .clock-lawful) (each-length f 0 (b .ports)) (each-all f LawfulPort emptyPort empty-lawful g 0 (b .ports) (h .ports-lawful))
+each-kept : (f : ℕ → Port → Port) (b : Bridge) (mask : ℕ) → Lawful b → mask < 2 ^ b .setup .n → ((k : ℕ) (p : Port) → LawfulPort p → LawfulPort (f k p))
+    → Lawful (withLinks b mask (each f 0 (b .ports)))
+each-kept f b mask h hl g =
+    parts-kept b mask (b .clock) _ h hl (h .clock-lawful) (each-length f 0 (b .ports)) (each-all f LawfulPort emptyPort empty-lawful g 0 (b .ports) (h .ports-lawful))
 
 -- ---- setup
 
@@ -82,12 +77,33 @@ empties zero i = empty-lawful
 empties (suc n) zero = empty-lawful
 empties (suc n) (suc i) = empties n i
 
-fresh-lawful : (s : Setup) → length (s .settings) ≡ mostPorts → s .n ≤ mostPorts → s .sender .back < longestElapsed → Lawful (freshOf s)
-fresh-lawful s hs hn hb = parts-lawful s 0 _ _ hs hn hb (pow-pos (s .n)) (record { preceding = tt; samples = tt }) refl (empties mostPorts)
+fresh-lawful : (s : Setup) → LawfulSetup s → Lawful (freshOf s)
+fresh-lawful s h = record {
+  setup-lawful = h;
+  links-most = pow-pos (s .n);
+  clock-lawful = record { preceding = tt; samples = tt };
+  records = refl;
+  ports-lawful = empties mostPorts;
+}
 
-pub setup-lawful : (s : Setup) → length (s .settings) ≡ mostPorts → Lawful (setupOf s .next)
+-- the setup of no ports
+none-lawful : LawfulSetup noSetup
+unfolding delaysFit
+none-lawful = record {
+  typed = record {
+    settings-most = refl;
+    address = record { byte0 = lit< tt; byte1 = lit< tt; byte2 = lit< tt; byte3 = lit< tt; byte4 = lit< tt; byte5 = lit< tt };
+    own-fits = record { priority1 = lit< tt; source = lit< tt; variance = lit< tt; priority2 = lit< tt; clock = lit< tt };
+  };
+  ports-most = lit≤ tt;
+  timeout-most = lit≤ tt;
+  back-small = lit< tt;
+  delays-fit = refl;
+}
+
+pub setup-lawful : (s : Setup) → TypedSetup s → Lawful (setupOf s .next)
 unfolding setupOf setupFits
-setup-lawful s hs =
+setup-lawful s typed =
     if-when Next (setupFits s)
     (λ e.
     let a = both-hold (leb 1 (s .n)) _ e in
@@ -95,8 +111,8 @@ setup-lawful s hs =
     let c = both-hold (leb leastTimeout (s .timeout)) _ (b .1) in
     let d = both-hold (leb (s .timeout) greatestTimeout) _ (c .1) in
     let f = both-hold (ltb (s .sender .back) longestElapsed) _ (d .1) in
-    fresh-lawful s hs (leb-true _ _ (b .0)) (ltb-true _ _ (f .0)))
-    (λ _. fresh-lawful noSetup refl (omega arith) (omega arith))
+    fresh-lawful s (record { typed = typed; ports-most = leb-true _ _ (b .0); timeout-most = leb-true _ _ (d .0); back-small = ltb-true _ _ (f .0); delays-fit = f .1 }))
+    (λ _. fresh-lawful noSetup none-lawful)
 
 -- ---- the calls
 
@@ -107,14 +123,14 @@ links-lawful b mask h =
     (λ e. each-kept (relinkedPort (b .links) mask) b mask h (leb-false _ _ e)
     (λ k p l. if-when LawfulPort (eqb (bit (b .links) k) 1 && eqb (bit mask k) 0) (λ _. empty-lawful) (λ _. l)))
 
-pub own-lawful : (b : Bridge) (count seconds fraction at : ℕ) → Lawful b → Lawful (ownClockOf b count seconds fraction at .next)
+pub own-lawful : (b : Bridge) (count seconds fraction at : ℕ) → count < counts → Lawful b → Lawful (ownClockOf b count seconds fraction at .next)
 unfolding ownClockOf
-own-lawful b count seconds fraction at h =
+own-lawful b count seconds fraction at byte h =
     if-when Next (eqb (ownClockRefusal (b .setup .capable) seconds fraction at) 0)
     (λ e.
     let r = own-ready (b .setup .capable) seconds fraction at (eqb-true _ _ e) in
     parts-kept b (b .links) _ (b .ports) h (h .links-most)
-    (own-reading-lawful count (record { 0 = seconds; 1 = fraction }) (record { 0 = at }) (b .clock) (r .time) (record { seconds = r .whole; fraction = r .part }) (h .clock-lawful))
+    (own-reading-lawful count (record { 0 = seconds; 1 = fraction }) (record { 0 = at }) (b .clock) byte (r .time) (record { seconds = r .whole; fraction = r .part }) (h .clock-lawful))
     refl (h .ports-lawful))
     (λ _. h)
 
@@ -145,3 +161,18 @@ send-lawful b port t room h =
     if-when Next (eqb (sendRefusal (b .setup .n) (b .links) port t room) 0)
     (λ _. port-kept b (port - 1) _ h (used-lawful _ (h .ports-lawful (port - 1))))
     (λ _. h)
+
+-- ---- calls in a row
+
+after-lawful : (b : Bridge) (c : Call) → Lawful b → Lawful (after b c)
+after-lawful b (links mask) h = links-lawful b mask h
+after-lawful b (own-clock count byte seconds fraction at) h = own-lawful b count seconds fraction at byte h
+after-lawful b (receive port frame bytes arrival) h = receive-lawful b port frame arrival bytes h
+after-lawful b (age at) h = age-lawful b at h
+after-lawful b (send port t room) h = send-lawful b port t room h
+
+-- every state that a call is given, after any calls on a lawful one, is lawful
+pub run-lawful : (b : Bridge) (cs : List Call) → Lawful b → Lawful (run b cs)
+unfolding run
+run-lawful b [] h = h
+run-lawful b (c ∷ cs) h = run-lawful (after b c) cs (after-lawful b c h)

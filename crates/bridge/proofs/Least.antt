@@ -140,3 +140,15 @@ chosen-announced b {p} {h} {i} e =
     not-own : (t : Bool) → Clock p h (suc i) ≡ ownCandidate t (b .setup .own) → ⊥
     not-own true own = let number : suc i ≡ 0 = cc in absurd (omega (arith, number))
     not-own false own = let clash : _≡_ {A = ℕ} 0 1 = cc in absurd (omega arith)
+
+-- and one under the number 0 is the own clock, at hop 0
+pub chosen-own : (b : Bridge) {p : Precedence} {h : ℕ} → chosenOf b ≡ Clock p h 0 → (p ≡ b .setup .own) × (h ≡ 0)
+unfolding ownCandidate
+chosen-own b {p} {h} e =
+    ⊎-elim (by (b .setup .capable))
+    (λ m. absurd (omega (arith, announced-at 1 (b .ports) m .1)))
+    (List·Memᴰ·cases-cons (subst (λ (c : Candidate). List·Memᴰ c (candidates b)) e (chosen-member b)))
+  where
+    by : (t : Bool) → Clock p h 0 ≡ ownCandidate t (b .setup .own) → (p ≡ b .setup .own) × (h ≡ 0)
+    by true own = (cc, cc)
+    by false own = let clash : _≡_ {A = ℕ} 0 1 = cc in absurd (omega arith)

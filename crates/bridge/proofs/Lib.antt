@@ -8,9 +8,10 @@ pub mod Refused
 pub mod Order
 pub mod Literals
 pub mod Leaves
-pub mod Line
 pub mod Least
 pub mod Choosing
+pub mod Sent
+pub mod Line
 pub mod Records
 pub mod Counts
 pub mod Hops

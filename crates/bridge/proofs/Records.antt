@@ -64,9 +64,9 @@ module _ (b : Bridge) where
   unfolding linksOf ownClockOf ageOf sendOf
   after-length (links mask) =
       if-when (λ (d : Linked). AsMany b (d .next)) (maskBeyond (b .setup .n) mask) (λ _. refl) (λ _. each-length (relinkedPort (b .links) mask) 0 (b .ports))
-  after-length (own-clock count seconds fraction at) =
+  after-length (own-clock count byte seconds fraction at) =
       if-when (λ (d : Done). AsMany b (d .next)) (eqb (ownClockRefusal (b .setup .capable) seconds fraction at) 0) (λ _. refl) (λ _. refl)
-  after-length (receive port frame arrival) = receive-length port frame arrival
+  after-length (receive port frame bytes arrival) = receive-length port frame arrival
   after-length (age at) =
       if-when (λ (d : Done). AsMany b (d .next)) (leb circle at) (λ _. refl)
       (λ _. each-length (λ _. agedPort (record { 0 = at }) (b .setup .timeout)) 0 (b .ports))

@@ -69,7 +69,7 @@ pub own-answers : (b : Bridge) (count seconds fraction at : ℕ) → OwnAnswers 
 unfolding ownClockOf
 own-answers b count seconds fraction at =
     if-when (OwnAnswers b count at) (eqb (ownClockRefusal (b .setup .capable) seconds fraction at) 0)
-    (λ _. own-reading-is count _ (record { 0 = at }) (b .clock) (λ (d : ClockDone). OwnAnswers b count at (storesClock b d)) (inr (inr (refl, refl))) (λ _. inl refl))
+    (λ _. own-reading-is count _ (record { 0 = at }) (b .clock) (λ (d : ClockDone). OwnAnswers b count at (storesClock b d)) (inr (inr (refl, refl))) (λ _ _ _. inl refl))
     (λ _. own-is (λ (k : ℕ). OwnAnswers b count at (answers k b)) (b .setup .capable) seconds fraction at (inr (inl (inl refl, refl))) (inr (inl (inr refl, refl))) (inl refl))
 
 pub receive-answers : (b : Bridge) (port : ℕ) (frame : List ℕ) (arrival : ℕ) → ReceiveAnswers b port frame arrival (receiveOf b port frame arrival)
@@ -84,7 +84,7 @@ receive-answers b port frame arrival =
     by (Readings.Frame f) q =
         received-is (settingAt b (port - 1)) _ f (record { 0 = arrival }) (portAt (b .ports) (port - 1)) (λ (d : PortDone). ReceiveAnswers b port frame arrival (storesPort b (port - 1) d))
         (λ k l g. inr (inr ((l, g), (f, q, refl))))
-        (λ _ _ _ _. inl refl)
+        (λ _ _ _ _ _. inl refl)
 
 pub send-answers : (b : Bridge) (port t : ℕ) (out : List ℕ) → SendAnswers b port out (sendOf b port t (length out)) (sendBytes b port t out)
 unfolding sendOf sendBytes sendingAt
@@ -92,7 +92,7 @@ send-answers b port t out =
     let held = portAt (b .ports) (port - 1) in
     if-both (SendAnswers b port out) (eqb (sendRefusal (b .setup .n) (b .links) port t (length out)) 0)
     (λ _. sending-is (chosenOf b) (chosenSamples b) (b .setup .sender) (record { 0 = t }) held
-    (λ (s : Sending). SendAnswers b port out (storesPort b (port - 1) (sendingDone s held)) (sendingBytes s out)) (λ k l g. inr (inr ((l, g), refl, refl))) (λ _ _ _ _ _. inl refl))
+    (λ (s : Sending). SendAnswers b port out (storesPort b (port - 1) (sendingDone s held)) (sendingBytes s out)) (λ k l g. inr (inr ((l, g), refl, refl))) (λ _ _ _ _ _ _ _. inl refl))
     (λ _. send-is (λ (k : ℕ). SendAnswers b port out (answers k b) out) (b .setup .n) (b .links) port t (length out)
     (inr (inl ((omega arith, omega arith), refl, refl))) (inr (inl ((omega arith, omega arith), refl, refl))) (inr (inl ((omega arith, omega arith), refl, refl))) (inl refl))
 

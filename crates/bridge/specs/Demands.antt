@@ -9,19 +9,23 @@ use lib.IntN.{pos, natAbs}
 use lib.Signed.{nonNeg}
 use lib.Ieee.{Float}
 use lib.Ieee.Exact.{HasValue}
-use Rattle.numbers.specs.Bytes.{numberAt}
-use Rattle.times.specs.Times.{sinceOf}
+use Rattle.numbers.specs.Bytes.{numberAt, Bytes}
+use Rattle.times.specs.Times.{counts, sinceOf}
 use Rattle.times.specs.declared.LocalTime.{LocalTime}
+use Rattle.times.specs.declared.GrandTime.{GrandTime}
+use Rattle.times.specs.declared.ErrorTime.{ErrorTime}
 use Rattle.samples.specs.Rate.{parts}
 use Rattle.samples.specs.Keep.{endsOf, rateBetween}
 use Rattle.samples.specs.declared.Sample.{Sample}
 use Rattle.samples.specs.declared.Ends.the-variants.{Both}
-use Rattle.timeline.specs.Sent.{reachOf}
-use Rattle.timeline.specs.Line.{NearLine}
+use Rattle.timeline.specs.Sent.{reachOf, sentOf}
+use Rattle.timeline.specs.Line.{bound, NearLine}
 use Rattle.timeline.specs.Drift.{million, driftNo}
 use Rattle.timeline.specs.declared.Drift.{Drift}
+use Rattle.timeline.specs.declared.Sent.the-variants.{At}
 use Rattle.choice.specs.Hop.{lastHop}
 use Rattle.choice.specs.Choose.{rankOf, ownCandidate, numberOf}
+use Rattle.choice.specs.declared.Precedence.{Precedence}
 use Rattle.choice.specs.declared.Announcement.{Announcement}
 use Rattle.choice.specs.declared.Announcement.the-variants.{Announced}
 use Rattle.choice.specs.declared.Candidate.{Candidate}
@@ -32,6 +36,7 @@ use Rattle.frame.specs.declared.Reading.{Reading}
 use Rattle.frame.specs.declared.Reading.the-variants.{Frame}
 use Rattle.port.specs.Record.{usedPort}
 use Rattle.port.specs.Receive.{notedPort}
+use Rattle.port.specs.Send.{frameOf}
 use Rattle.port.specs.declared.Preceding.the-variants.{Was}
 use Rattle.bridge.specs.Table.{portAt, samplesAt, candidatesFrom}
 use Rattle.bridge.specs.Arguments.{bit, sendRefusal, maskBeyond}
@@ -110,7 +115,20 @@ pub record OnLine (b : Bridge) (t : ℕ) (bytes : List ℕ) : Type 0 where
   pub older : Sample
   pub newer : Sample
   pub kept : endsOf (chosenSamples b) ≡ Both older newer
-  pub near : NearLine older newer (pos (numberAt bytes grandStart grandBytes)) (reachOf (sinceOf (record { 0 = t }) (newer .local)) (b .setup .sender .back)) (b .setup .sender .back)
+  pub near : NearLine bound older newer (pos (numberAt bytes grandStart grandBytes)) (reachOf (sinceOf (record { 0 = t }) (newer .local)) (b .setup .sender .back)) (b .setup .sender .back)
+
+-- ---- what Send writes
+
+-- what Read gives of a sent frame is exactly the fields of the rules: for the chosen clock, with the grand time and errorTime read off its samples
+pub record SentFields (b : Bridge) (port t : ℕ) (sent : List ℕ) : Type 0 where
+  pub precedence : Precedence
+  pub hop : ℕ
+  pub number : ℕ
+  pub grand : GrandTime
+  pub error : ErrorTime
+  pub chosen : chosenOf b ≡ Clock precedence hop number
+  pub time : sentOf (chosenSamples b) (record { 0 = t }) (b .setup .sender .back) ≡ At grand error
+  pub read : readOf sent ≡ Frame (frameOf (b .setup .sender) precedence hop (record { 0 = t }) grand error (portAt (b .ports) (port - 1)))
 
 -- ---- drift
 
@@ -135,18 +153,19 @@ NoWorse (Clock p h i) (Clock q k j) = rankOf p h i ≤ rankOf q k j
 
 -- ---- calls in a row
 
--- a call that may change the state, with its arguments; a send's output by its length
+-- a call that may change the state, with its arguments; a send's output by its length. Of two arguments the type is said too, for what is stored of them
+-- is not tested first: a frameCount is a byte, and so is each element of a frame
 pub data Call : Type 0 where
   links : ℕ → Call
-  own-clock : ℕ → ℕ → ℕ → ℕ → Call
-  receive : ℕ → List ℕ → ℕ → Call
+  own-clock : (count : ℕ) → count < counts → ℕ → ℕ → ℕ → Call
+  receive : ℕ → (frame : List ℕ) → Bytes frame → ℕ → Call
   age : ℕ → Call
   send : ℕ → ℕ → ℕ → Call
 
 abbrev pub after : Bridge → Call → Bridge
 after b (links mask) = linksOf b mask .next
-after b (own-clock count seconds fraction at) = ownClockOf b count seconds fraction at .next
-after b (receive port frame arrival) = receiveOf b port frame arrival .next
+after b (own-clock count byte seconds fraction at) = ownClockOf b count seconds fraction at .next
+after b (receive port frame bytes arrival) = receiveOf b port frame arrival .next
 after b (age at) = ageOf b at .next
 after b (send port t room) = sendOf b port t room .next
 
@@ -163,8 +182,8 @@ along step b (c ∷ cs) x = along step (after b c) cs (step b c x)
 -- each send that is refused by its number alone no more
 abbrev pub usedBy : ℕ → Bridge → Call → ℕ → ℕ
 usedBy i b (links mask) n = cond (maskBeyond (b .setup .n) mask) n (cond (eqb (bit (b .links) i) 1 && eqb (bit mask i) 0) 0 n)
-usedBy i b (own-clock count seconds fraction at) n = n
-usedBy i b (receive port frame arrival) n = n
+usedBy i b (own-clock count byte seconds fraction at) n = n
+usedBy i b (receive port frame bytes arrival) n = n
 usedBy i b (age at) n = n
 usedBy i b (send port t room) n = cond (eqb (sendRefusal (b .setup .n) (b .links) port t room) 0) (cond (eqb (port - 1) i) (n + 1) n) n
 
@@ -174,8 +193,8 @@ used i = along (usedBy i)
 -- the frame that the port at index i took last, and no bytes before the first: a frame is taken where receive answers 0
 abbrev pub takenBy : ℕ → Bridge → Call → List ℕ → List ℕ
 takenBy i b (links mask) last = last
-takenBy i b (own-clock count seconds fraction at) last = last
-takenBy i b (receive port frame arrival) last = cond (eqb (receiveOf b port frame arrival .answer) 0) (cond (eqb (port - 1) i) frame last) last
+takenBy i b (own-clock count byte seconds fraction at) last = last
+takenBy i b (receive port frame bytes arrival) last = cond (eqb (receiveOf b port frame arrival .answer) 0) (cond (eqb (port - 1) i) frame last) last
 takenBy i b (age at) last = last
 takenBy i b (send port t room) last = last
 

@@ -1,31 +1,46 @@
 -- The state: what holds of every state that Setup or a call hands back, and a state with one part changed.
 use mathlib.Core.Path.{_≡_}
-use mathlib.Core.Bool.{cond}
+use mathlib.Core.Bool.{true, cond}
 use mathlib.Core.List.{List}
 use Prim.Native.Nat.{ℕ, _^_, _<_, _≤_}
 use lib.Dec.{eqb}
-use lib.ListN.{length, set}
+use lib.ListN.{length, take, set}
 use Rattle.refusals.specs.Refusals.{done}
 use Rattle.timeline.specs.Sent.{longestElapsed}
-use Rattle.port.specs.Lawful.{LawfulPort, LawfulClock}
+use Rattle.choice.specs.Rank.{PrecedenceFits}
+use Rattle.port.specs.Lawful.{LawfulPort, LawfulClock, LawfulMac}
 use Rattle.port.specs.declared.Port.{Port}
 use Rattle.port.specs.declared.OwnClock.{OwnClock}
 use Rattle.port.specs.declared.PortDone.{PortDone}
 use Rattle.port.specs.declared.ClockDone.{ClockDone}
 use Rattle.bridge.specs.Table.{portAt, mostPorts}
+use Rattle.bridge.specs.Fits.{greatestTimeout, delaysFit}
 use Rattle.bridge.specs.declared.Setup.{Setup}
 use Rattle.bridge.specs.declared.Bridge.{Bridge}
 use Rattle.bridge.specs.declared.Done.{Done}
 use Rattle.bridge.specs.declared.Linked.{Linked}
 use Rattle.bridge.specs.declared.LinkCount.{LinkCount}
 
+-- what the types of a setup say, whatever Setup makes of it: eight settings, an address of six bytes, and an own precedence whose parts have their bits
+pub record TypedSetup (s : Setup) : Type 0 where
+  pub settings-most : length (s .settings) ≡ mostPorts
+  pub address : LawfulMac (s .sender .mac)
+  pub own-fits : PrecedenceFits (s .own)
+
+-- a setup in a state: one that Setup took, or that of no ports
+pub record LawfulSetup (s : Setup) : Type 0 where
+  pub typed : TypedSetup s
+  pub ports-most : s .n ≤ mostPorts
+  pub timeout-most : s .timeout ≤ greatestTimeout
+  pub back-small : s .sender .back < longestElapsed
+  pub delays-fit : delaysFit (take (s .n) (s .settings)) ≡ true
+
+-- what holds of every number in a state that Setup or a call hands back
 pub record Lawful (b : Bridge) : Type 0 where
-  pub records : length (b .ports) ≡ mostPorts
-  pub delays : length (b .setup .settings) ≡ mostPorts
-  pub ports-most : b .setup .n ≤ mostPorts
+  pub setup-lawful : LawfulSetup (b .setup)
   pub links-most : b .links < 2 ^ b .setup .n
-  pub back-small : b .setup .sender .back < longestElapsed
   pub clock-lawful : LawfulClock (b .clock)
+  pub records : length (b .ports) ≡ mostPorts
   pub ports-lawful : (i : ℕ) → LawfulPort (portAt (b .ports) i)
 
 -- a state by its parts: every state that is made or changed is made here

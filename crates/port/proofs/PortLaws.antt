@@ -2,19 +2,19 @@
 use mathlib.Core.Path.{_≡_, refl, sym, ap, _∙_, subst}
 use mathlib.Core.Bool.{true, false}
 use mathlib.Core.List.{List}
-use Prim.Native.Nat.{ℕ, _<_, _≤_}
+use Prim.Native.Nat.{ℕ, _^_, _<_, _≤_}
 use native.Mathlib.Omega.{arith}
-use borrow.Author.Tests.{eq-eqb, ne-eqb}
-use lib.Dec.{eqb}
-use lib.ListN.{length}
+use borrow.Author.Tests.{eq-eqb, ne-eqb, eqb-false}
+use lib.Dec.{eqb, lit<}
+use lib.ListN.{length, getD}
 use Rattle.numbers.specs.Bytes.{Bytes}
 use Rattle.numbers.specs.Table.{Held}
-use Rattle.times.specs.Times.{circle, InRange, nextCount}
+use Rattle.times.specs.Times.{circle, counts, InRange, nextCount}
 use Rattle.choice.specs.Hop.{lastHop, hopOf}
 use Rattle.times.specs.declared.LocalTime.{LocalTime}
 use Rattle.times.specs.declared.GrandTime.{GrandTime}
 use Rattle.times.specs.declared.ErrorTime.{ErrorTime}
-use Rattle.samples.specs.Keep.{keptOf}
+use Rattle.samples.specs.Keep.{keptOf, LawfulSamples}
 use Rattle.samples.specs.Rate.{neighbourRateOf}
 use Rattle.samples.specs.declared.Samples.{Samples}
 use Rattle.samples.specs.declared.Pair.{Pair}
@@ -25,16 +25,18 @@ use Rattle.timeline.specs.declared.Sent.the-variants.{At, Few, Late, Beyond}
 use Rattle.timeline.specs.Sent.{sentOf}
 use Rattle.delay.specs.declared.Delay.{Delay}
 use Rattle.delay.specs.declared.Delay.the-variants.{Is, TooLong}
+use Rattle.choice.specs.Rank.{PrecedenceFits}
 use Rattle.choice.specs.declared.Precedence.{Precedence}
 use Rattle.choice.specs.declared.Candidate.{Candidate}
 use Rattle.choice.specs.declared.Candidate.the-variants.{Nothing, Clock}
 use Rattle.frame.specs.Frame.{frameLength, widths}
 use Rattle.frame.specs.Read.{rowsOf, readOf}
 use Rattle.frame.specs.Write.{writeRefusal}
+use Rattle.frame.specs.Demands.{Typed}
 use Rattle.frame.specs.declared.Reading.the-variants as Frames
 use Rattle.frame.specs.declared.Fields.{Fields}
 use Rattle.port.specs.Record.{silenced, tooOld, agedPort, emptyPort, usedPort}
-use Rattle.port.specs.Lawful.{LawfulPreceding, LawfulPair, LawfulPort, LawfulClock, FieldsInRange}
+use Rattle.port.specs.Lawful.{LawfulPreceding, LawfulPair, LawfulPort, LawfulClock, LawfulMac, FieldsInRange}
 use Rattle.port.specs.Own.{storedAs, ownSample, ownReadingBy, ownReadingOf}
 use Rattle.port.specs.Receive.{sampleOf, sameClock, takenPort, refusedBy, delayedBy, followedBy, countedBy, receivedOf}
 use Rattle.port.specs.Send.{echoTx, echoRx, frameOf, sendingBy, sendingOf, sendingNo, sendingDone}
@@ -50,8 +52,10 @@ use Rattle.port.specs.declared.PortDone.{PortDone}
 use Rattle.port.specs.declared.ClockDone.{ClockDone}
 use Rattle.numbers.proofs.Table.{held-at, held-parted}
 use Rattle.numbers.proofs.Branches.{if-true, if-false, if-when}
-use Rattle.samples.proofs.KeepLaws.{kept-lawful}
+use Rattle.times.proofs.TimeLaws.{since-lt}
+use Rattle.samples.proofs.KeepLaws.{kept-lawful, ends-lawful}
 use Rattle.timeline.proofs.SentLaws.{Departure, departure}
+use Rattle.choice.proofs.HopLaws.{hop-within}
 use Rattle.frame.proofs.FrameLaws.{accepted, reading, unrefused}
 
 -- ---- record
@@ -123,38 +127,40 @@ module _ (count : ℕ) (grand : GrandTime) (at : LocalTime) (clock : OwnClock) w
 -- what holds of a refusal with 7 to 9, and of a frame that is taken, holds of the frame
 module _ (setting : Setting) (chosen : ℕ) (f : Fields) (at : LocalTime) (port : Port) where
   pub received-is : (P : PortDone → Type 0) → ((k : ℕ) → 7 ≤ k → k ≤ 9 → P (refusedBy k (f .count) at port))
-      → ((count : ℕ) (p : LocalTime) (delay : ℕ) → port .preceding ≡ Was count p → P (record { answer = 0; port = takenPort f (hopOf (f .hop) chosen) p delay at port }))
+      → ((count : ℕ) (p : LocalTime) (delay : ℕ) → (f .hop ≡ lastHop → ⊥) → port .preceding ≡ Was count p
+      → P (record { answer = 0; port = takenPort f (hopOf (f .hop) chosen) p delay at port }))
       → P (receivedOf setting chosen f at port)
   unfolding receivedOf followedBy
-  received-is P refuse take = if-when P (eqb (f .hop) lastHop) (λ _. refuse 7 (omega arith) (omega arith)) (λ _. counted (port .preceding) refl)
+  received-is P refuse take = if-when P (eqb (f .hop) lastHop) (λ _. refuse 7 (omega arith) (omega arith)) (λ n. counted (eqb-false _ _ n) (port .preceding) refl)
     where
-      delayed : (d : Delay) (count : ℕ) (p : LocalTime) → port .preceding ≡ Was count p → P (delayedBy d chosen f p at port)
-      delayed TooLong count p e = refuse 9 (omega arith) (omega arith)
-      delayed (Is x) count p e = take count p x e
+      delayed : (f .hop ≡ lastHop → ⊥) → (d : Delay) (count : ℕ) (p : LocalTime) → port .preceding ≡ Was count p → P (delayedBy d chosen f p at port)
+      delayed n TooLong count p e = refuse 9 (omega arith) (omega arith)
+      delayed n (Is x) count p e = take count p x n e
 
-      counted : (preceding : Preceding) → port .preceding ≡ preceding → P (countedBy preceding setting chosen f at port)
-      counted Never e = refuse 8 (omega arith) (omega arith)
-      counted (Was count p) e =
+      counted : (f .hop ≡ lastHop → ⊥) → (preceding : Preceding) → port .preceding ≡ preceding → P (countedBy preceding setting chosen f at port)
+      counted n Never e = refuse 8 (omega arith) (omega arith)
+      counted n (Was count p) e =
           if-when P (eqb (f .count) (nextCount count))
-          (λ _. delayed (linkDelayOf (setting .delay) (neighbourRateOf (port .pair) (f .local) p) (f .local) p (f .tx) (f .rx)) count p e)
+          (λ _. delayed n (linkDelayOf (setting .delay) (neighbourRateOf (port .pair) (f .local) p) (f .local) p (f .tx) (f .rx)) count p e)
           (λ _. refuse 8 (omega arith) (omega arith))
 
 -- the next frameCount of a port stays, whatever it hears and however it ages
 pub received-count : (setting : Setting) (chosen : ℕ) (f : Fields) (at : LocalTime) (port : Port) → receivedOf setting chosen f at port .port .count ≡ port .count
-received-count setting chosen f at port = received-is setting chosen f at port (λ (r : PortDone). r .port .count ≡ port .count) (λ _ _ _. refl) (λ _ _ _ _. refl)
+received-count setting chosen f at port = received-is setting chosen f at port (λ (r : PortDone). r .port .count ≡ port .count) (λ _ _ _. refl) (λ _ _ _ _ _. refl)
 
 pub aged-count : (at : LocalTime) (timeout : ℕ) (port : Port) → agedPort at timeout port .count ≡ port .count
 aged-count at timeout port = aged-is at timeout port (λ (r : Port). r .count ≡ port .count) refl refl
 
 -- what holds of a refusal with 8, and of a reading that is taken, holds of the reading
 pub own-reading-is : (count : ℕ) (grand : GrandTime) (at : LocalTime) (clock : OwnClock) (P : ClockDone → Type 0) → P (storedAs 8 (clock .samples) count at)
-    → ((when : LocalTime) → P (storedAs 0 (keptOf (clock .samples) true (ownSample grand when)) count at)) → P (ownReadingOf count grand at clock)
+    → ((held : ℕ) (when : LocalTime) → clock .preceding ≡ Was held when → P (storedAs 0 (keptOf (clock .samples) true (ownSample grand when)) count at))
+    → P (ownReadingOf count grand at clock)
 unfolding ownReadingOf
-own-reading-is count grand at clock P refuse take = go (clock .preceding)
+own-reading-is count grand at clock P refuse take = go (clock .preceding) refl
   where
-    go : (preceding : Preceding) → P (ownReadingBy preceding count grand at (clock .samples))
-    go Never = refuse
-    go (Was held when) = if-when P (eqb count (nextCount held)) (λ _. take when) (λ _. refuse)
+    go : (preceding : Preceding) → clock .preceding ≡ preceding → P (ownReadingBy preceding count grand at (clock .samples))
+    go Never e = refuse
+    go (Was held when) e = if-when P (eqb count (nextCount held)) (λ _. take held when e) (λ _. refuse)
 
 -- ---- sending
 
@@ -171,91 +177,180 @@ module _ (choice : Candidate) (samples : Samples) (sender : Sender) (t : LocalTi
 
   -- what holds of a refusal with 10 to 13, and of a frame for the chosen clock, holds of what is sent
   pub sending-is : (P : Sending → Type 0) → ((k : ℕ) → 10 ≤ k → k ≤ 13 → P (Refused k))
-      → ((p : Precedence) (h : ℕ) (g : GrandTime) (x : ErrorTime) → sentOf samples t (sender .back) ≡ At g x → P (Frame (frameOf sender p h t g x port)))
+      → ((p : Precedence) (h n : ℕ) (g : GrandTime) (x : ErrorTime) → choice ≡ Clock p h n → sentOf samples t (sender .back) ≡ At g x
+      → P (Frame (frameOf sender p h t g x port)))
       → P (sendingOf choice samples sender t port)
   unfolding sendingOf
-  sending-is P refuse send = chosen choice
+  sending-is P refuse send = chosen choice refl
     where
-      by : (s : Sent) → sentOf samples t (sender .back) ≡ s → (p : Precedence) (h : ℕ) → P (sendingBy s sender p h t port)
-      by (At g x) q p h = send p h g x q
-      by Few q p h = refuse 11 (omega arith) (omega arith)
-      by Late q p h = refuse 12 (omega arith) (omega arith)
-      by Beyond q p h = refuse 13 (omega arith) (omega arith)
+      by : (s : Sent) → sentOf samples t (sender .back) ≡ s → (p : Precedence) (h n : ℕ) → choice ≡ Clock p h n → P (sendingBy s sender p h t port)
+      by (At g x) q p h n e = send p h n g x e q
+      by Few q p h n e = refuse 11 (omega arith) (omega arith)
+      by Late q p h n e = refuse 12 (omega arith) (omega arith)
+      by Beyond q p h n e = refuse 13 (omega arith) (omega arith)
 
-      chosen : (c : Candidate) → P (sendingOf c samples sender t port)
-      chosen Nothing = refuse 10 (omega arith) (omega arith)
-      chosen (Clock p h n) = by (sentOf samples t (sender .back)) refl p h
+      chosen : (c : Candidate) → choice ≡ c → P (sendingOf c samples sender t port)
+      chosen Nothing e = refuse 10 (omega arith) (omega arith)
+      chosen (Clock p h n) e = by (sentOf samples t (sender .back)) refl p h n e
 
--- a frame to be sent has its times in range
-pub sending-written : (choice : Candidate) (samples : Samples) (sender : Sender) (t : LocalTime) (port : Port) (room : ℕ) (f : Fields)
-    → t .0 < circle → LawfulPort port → frameLength ≤ room → sendingOf choice samples sender t port ≡ Frame f → writeRefusal f room ≡ 0
-sending-written choice samples sender t port room f ht l r =
-    sending-is choice samples sender t port (λ (s : Sending). s ≡ Frame f → writeRefusal f room ≡ 0)
-    (λ k _ _ e. let z : _≡_ {A = ℕ} 0 1 = cc in absurd (omega arith))
-    (λ p h g x q e.
-    let same : frameOf sender p h t g x port ≡ f = cc in
-    let w = departure samples t (sender .back) g x q .range in
-    let m = echo-small (port .echo) (l .echo) in
-    subst (λ (f : Fields). writeRefusal f room ≡ 0) same
-    (unrefused (frameOf sender p h t g x port) room
-    (record { seconds = w .seconds; fraction = w .fraction; local = ht; tx = m .0; rx = m .1; room = r })))
-  where
-    echo-small : (s : Pair) → LawfulPair s → (echoTx s .0 < circle) × (echoRx s .0 < circle)
-    echo-small Unset q = (omega arith, omega arith)
-    echo-small (Set a b) q = q
+-- a frame that is sent is one for the chosen clock: its fields are those of `frameOf`, with what was read off the clock's samples
+pub record SentFor (choice : Candidate) (samples : Samples) (sender : Sender) (t : LocalTime) (port : Port) (f : Fields) : Type 0 where
+  pub precedence : Precedence
+  pub hop : ℕ
+  pub number : ℕ
+  pub grand : GrandTime
+  pub error : ErrorTime
+  pub chosen : choice ≡ Clock precedence hop number
+  pub sent : sentOf samples t (sender .back) ≡ At grand error
+  pub same : frameOf sender precedence hop t grand error port ≡ f
 
--- a frame is sent only off two samples, with the grand time and errorTime read off them
+-- a grand time and an errorTime that are read off two samples
 abbrev pub ReadOff : Samples → LocalTime → ℕ → Fields → Type 0
 ReadOff samples t back f = Departure samples t back (f .grand) (f .error)
 
-pub sending-read-off : (choice : Candidate) (samples : Samples) (sender : Sender) (t : LocalTime) (port : Port)
-    → sendingNo (sendingOf choice samples sender t port) ≡ 0
-    → (f : Fields) × (sendingOf choice samples sender t port ≡ Frame f) × (f .count ≡ port .count) × ReadOff samples t (sender .back) f
-sending-read-off choice samples sender t port =
-    sending-is choice samples sender t port (λ (s : Sending). sendingNo s ≡ 0 → (f : Fields) × (s ≡ Frame f) × (f .count ≡ port .count) × ReadOff samples t (sender .back) f)
-    (λ k l _ e. absurd (omega arith))
-    (λ p h g x q _. let f = frameOf sender p h t g x port in (f, refl, refl, departure samples t (sender .back) g x q))
+module _ (choice : Candidate) (samples : Samples) (sender : Sender) (t : LocalTime) (port : Port) where
+  -- where the answer is 0 there is a frame
+  pub sending-frame : sendingNo (sendingOf choice samples sender t port) ≡ 0 → (f : Fields) × (sendingOf choice samples sender t port ≡ Frame f)
+  sending-frame =
+      sending-is choice samples sender t port (λ (s : Sending). sendingNo s ≡ 0 → (f : Fields) × (s ≡ Frame f))
+      (λ k l _ e. absurd (omega arith))
+      (λ p h n g x _ _ _. (frameOf sender p h t g x port, refl))
 
--- the times of a frame that was read are in range
+  module _ (f : Fields) (framed : sendingOf choice samples sender t port ≡ Frame f) where
+    pub sending-for : SentFor choice samples sender t port f
+    sending-for =
+        sending-is choice samples sender t port (λ (s : Sending). s ≡ Frame f → SentFor choice samples sender t port f)
+        (λ k _ _ e. let z : _≡_ {A = ℕ} 0 1 = cc in absurd (omega arith))
+        (λ p h n g x c q e. record { precedence = p; hop = h; number = n; grand = g; error = x; chosen = c; sent = q; same = cc })
+        framed
+
+    -- its grand time and errorTime are read off the samples
+    pub sending-read-off : ReadOff samples t (sender .back) f
+    sending-read-off = let s = sending-for in subst (ReadOff samples t (sender .back)) (s .same) (departure samples t (sender .back) (s .grand) (s .error) (s .sent))
+
+    -- its times are in range, so Write takes it
+    pub sending-written : (room : ℕ) → t .0 < circle → LawfulPort port → frameLength ≤ room → writeRefusal f room ≡ 0
+    sending-written room ht l r =
+        let s = sending-for in
+        let m = echo-small (port .echo) (l .echo) in
+        let w = departure samples t (sender .back) (s .grand) (s .error) (s .sent) .range in
+        subst (λ (f : Fields). writeRefusal f room ≡ 0) (s .same)
+        (unrefused (frameOf sender (s .precedence) (s .hop) t (s .grand) (s .error) port) room
+        (record { seconds = w .seconds; fraction = w .fraction; local = ht; tx = m .0; rx = m .1; room = r }))
+      where
+        echo-small : (s : Pair) → LawfulPair s → (echoTx s .0 < circle) × (echoRx s .0 < circle)
+        echo-small Unset q = (omega arith, omega arith)
+        echo-small (Set a b) q = q
+
+    -- each of its other fields has its bits
+    pub sending-typed : LawfulMac (sender .mac) → LawfulSamples samples → LawfulPort port → PrecedenceFits (sending-for .precedence) → sending-for .hop ≤ lastHop → Typed f
+    sending-typed mac w l p h =
+        let s = sending-for in
+        let r = departure samples t (sender .back) (s .grand) (s .error) (s .sent) in
+        let error : s .error .0 < 2 ^ 32 = subst (λ (x : ErrorTime). x .0 < 2 ^ 32) (sym (r .fault)) (ends-lawful samples (r .oldest) (r .newest) w (r .kept) .newest .error) in
+        subst Typed (s .same)
+        (record {
+          sa0 = mac .byte0;
+          sa1 = mac .byte1;
+          sa2 = mac .byte2;
+          sa3 = mac .byte3;
+          sa4 = mac .byte4;
+          sa5 = mac .byte5;
+          priority1 = p .priority1;
+          source = p .source;
+          variance = p .variance;
+          priority2 = p .priority2;
+          clock = p .clock;
+          hop = omega (arith, h);
+          count = l .count;
+          error = error;
+        })
+
+-- ---- the fields of a frame that was read
+
+-- each is in its range: a row's number is below what its bytes can hold
 pub read-in-range : (s : List ℕ) (f : Fields) → Bytes s → readOf s ≡ Frames.Frame f → FieldsInRange f
 read-in-range s f b e =
     let r = reading s f e in
     let len : length s ≡ frameLength = accepted s (r .0) .sized in
     let h : Held widths (rowsOf s) = held-parted widths 0 s b (omega arith) in
+    let row : (k : ℕ) → k < length widths → getD (rowsOf s) k 0 < 256 ^ getD widths k 0 = λ k. held-at widths (rowsOf s) k h in
     subst FieldsInRange (r .1)
     (record {
-      grand = record { seconds = held-at widths (rowsOf s) 18 h (omega arith); fraction = held-at widths (rowsOf s) 19 h (omega arith) };
-      local = held-at widths (rowsOf s) 20 h (omega arith);
+      typed = record {
+        sa0 = row 1 (lit< tt);
+        sa1 = row 2 (lit< tt);
+        sa2 = row 3 (lit< tt);
+        sa3 = row 4 (lit< tt);
+        sa4 = row 5 (lit< tt);
+        sa5 = row 6 (lit< tt);
+        priority1 = row 10 (lit< tt);
+        source = row 11 (lit< tt);
+        variance = row 12 (lit< tt);
+        priority2 = row 13 (lit< tt);
+        clock = row 14 (lit< tt);
+        hop = row 15 (lit< tt);
+        count = row 16 (lit< tt);
+        error = row 23 (lit< tt);
+      };
+      grand = record { seconds = row 18 (lit< tt); fraction = row 19 (lit< tt) };
+      local = row 20 (lit< tt);
+      tx = row 21 (lit< tt);
+      rx = row 22 (lit< tt);
     })
+
+-- the precedence in it has its bits
+fields-precedence : (f : Fields) → Typed f → PrecedenceFits (f .precedence)
+fields-precedence f t = record { priority1 = t .priority1; source = t .source; variance = t .variance; priority2 = t .priority2; clock = t .clock }
 
 -- ---- every step keeps a record lawful
 
 pub empty-lawful : LawfulPort emptyPort
-empty-lawful = record { preceding = tt; samples = tt; echo = tt }
+empty-lawful = record { preceding = tt; announcement = tt; samples = tt; pair = tt; echo = tt; count = lit< tt }
 
 pub used-lawful : (port : Port) → LawfulPort port → LawfulPort (usedPort port)
-used-lawful port l = record { preceding = l .preceding; samples = l .samples; echo = l .echo }
+used-lawful port l = record {
+  preceding = l .preceding;
+  announcement = l .announcement;
+  samples = l .samples;
+  pair = l .pair;
+  echo = l .echo;
+  count = omega arith;
+}
 
 pub aged-lawful : (at : LocalTime) (timeout : ℕ) (port : Port) → LawfulPort port → LawfulPort (agedPort at timeout port)
-aged-lawful at timeout port l = aged-is at timeout port LawfulPort l (record { preceding = l .preceding; samples = tt; echo = tt })
+aged-lawful at timeout port l =
+    aged-is at timeout port LawfulPort l (record { preceding = l .preceding; announcement = tt; samples = tt; pair = l .pair; echo = tt; count = l .count })
 
 pub received-lawful : (setting : Setting) (chosen : ℕ) (f : Fields) (at : LocalTime) (port : Port)
     → at .0 < circle → FieldsInRange f → LawfulPort port → LawfulPort (receivedOf setting chosen f at port .port)
 received-lawful setting chosen f at port h r l =
     received-is setting chosen f at port (λ (d : PortDone). LawfulPort (d .port))
-    (λ _ _ _. record { preceding = h; samples = l .samples; echo = l .echo })
-    (λ count p n e. record {
-      preceding = h;
-      samples = kept-lawful (port .samples) (sameClock (port .announcement) (f .precedence)) (sampleOf f p n) (l .samples) (r .grand);
-      echo = (r .local, subst LawfulPreceding e (l .preceding));
+    (λ _ _ _. record { preceding = (r .typed .count, h); announcement = l .announcement; samples = l .samples; pair = l .pair; echo = l .echo; count = l .count })
+    (λ count p n other e.
+    let arrived : LawfulPreceding (Was count p) = subst LawfulPreceding e (l .preceding) in
+    record {
+      preceding = (r .typed .count, h);
+      announcement = (fields-precedence f (r .typed), hop-within (f .hop) chosen (omega (arith, r .typed .hop, other)), h);
+      samples =
+          kept-lawful (port .samples) (sameClock (port .announcement) (f .precedence)) (sampleOf f p n) (l .samples)
+          (record { grand = r .grand; local = since-lt p (record { 0 = n }); error = r .typed .error });
+      pair = (r .local, arrived .1);
+      echo = (r .local, arrived .1);
+      count = l .count;
     })
 
 pub own-reading-lawful : (count : ℕ) (grand : GrandTime) (at : LocalTime) (clock : OwnClock)
-    → at .0 < circle → InRange grand → LawfulClock clock → LawfulClock (ownReadingOf count grand at clock .clock)
-own-reading-lawful count grand at clock h r l =
+    → count < counts → at .0 < circle → InRange grand → LawfulClock clock → LawfulClock (ownReadingOf count grand at clock .clock)
+own-reading-lawful count grand at clock k h r l =
     own-reading-is count grand at clock (λ (t : ClockDone). LawfulClock (t .clock))
-    (record { preceding = h; samples = l .samples })
-    (λ when. record { preceding = h; samples = kept-lawful (clock .samples) true (ownSample grand when) (l .samples) r })
+    (record { preceding = (k, h); samples = l .samples })
+    (λ held when e.
+    let read : LawfulPreceding (Was held when) = subst LawfulPreceding e (l .preceding) in
+    record {
+      preceding = (k, h);
+      samples = kept-lawful (clock .samples) true (ownSample grand when) (l .samples) (record { grand = r; local = read .1; error = lit< tt });
+    })
 
 -- whatever a send is answered with, the port's next frameCount is used up
 pub send-uses-up : (s : Sending) (port : Port) → sendingDone s port .port ≡ usedPort port

@@ -6,7 +6,7 @@ use Prim.Native.Nat.{ℕ, _+_, _*_, _<_}
 use native.Mathlib.Nat.{lt-of-mul-lt-mul-left}
 use native.Mathlib.Omega.{arith}
 use lib.IntN.{ℤ, pos, negℤ, natAbs, _+ℤ_, _-ℤ_, _*ℤ_, *ℤ-zero, +ℤ-idr}
-use Rattle.times.specs.Times.{circle, sinceOf, units}
+use Rattle.times.specs.Times.{sinceOf, units}
 use Rattle.times.specs.declared.LocalTime.{LocalTime}
 use Rattle.times.specs.declared.GrandTime.{GrandTime}
 use Rattle.samples.specs.Rate.{scaledOf}
@@ -39,8 +39,8 @@ chosen-ends b older newer h =
     ends-lawful (chosenSamples b) older newer (chosen-lawful (chosenOf b) (b .clock) (b .ports) (h .clock-lawful) (h .ports-lawful))
 
 -- near the line, with nothing added to the reading
-near-alone : (a b : Sample) (z x : ℤ) → natAbs (pos (spreadOf a b) *ℤ z -ℤ lineAt a b x) < bound * spreadOf a b → NearLine a b z x 0
-near-alone a b z x h = rw (*ℤ-zero (pos (spreadOf a b)), +ℤ-idr (lineAt a b x)) h
+near-alone : (k : ℕ) (a b : Sample) (z x : ℤ) → natAbs (pos (spreadOf a b) *ℤ z -ℤ lineAt a b x) < k * spreadOf a b → NearLine k a b z x 0
+near-alone k a b z x h = rw (*ℤ-zero (pos (spreadOf a b)), +ℤ-idr (lineAt a b x)) h
 
 pub stamp-near : (b : Bridge) (latch : ℕ) (g : GrandTime) → Lawful b → stampOf b latch ≡ At g → StampOnLine b latch g
 stamp-near b latch g h e =
@@ -51,7 +51,7 @@ stamp-near b latch g h e =
       newer = r .newer;
       kept = r .kept;
       near =
-          near-alone (r .older) (r .newer) (pos (units g)) x
+          near-alone bound (r .older) (r .newer) (pos (units g)) x
           (subst (λ (z : ℤ). natAbs (pos (spreadOf (r .older) (r .newer)) *ℤ z -ℤ lineAt (r .older) (r .newer) x) < bound * spreadOf (r .older) (r .newer)) (sym (r .time))
           (reading-near (r .older) (r .newer) x (chosen-ends b (r .older) (r .newer) h (r .kept)) (r .reach)));
     }
@@ -81,14 +81,14 @@ since-itself a = omega arith
 no-distance : (a : LocalTime) → distanceOf a a ≡ pos 0
 no-distance a = onward a a (omega (arith, since-itself a)) ∙ ap pos (since-itself a)
 
-pub stamp-at-newer : (b : Bridge) (older newer : Sample) → Lawful b → endsOf (chosenSamples b) ≡ Both older newer → newer .local .0 < circle
-    → stampOf b (newer .local .0) ≡ At (newer .grand)
-stamp-at-newer b older newer h e l =
+pub stamp-at-newer : (b : Bridge) (older newer : Sample) → Lawful b → endsOf (chosenSamples b) ≡ Both older newer → stampOf b (newer .local .0) ≡ At (newer .grand)
+stamp-at-newer b older newer h e =
+    let w = chosen-ends b older newer h e .newest in
     sym
     (through-as (newer .local) {e = Both older newer} (λ i. Both older newer) (rw (no-distance (newer .local)) (omega arith))
-    (moment-at (newer .grand) _ (chosen-ends b older newer h e .newest) (sym (ap (readingAt older newer) (no-distance (newer .local)) ∙ reading-newer older newer)))
+    (moment-at (newer .grand) _ (w .grand) (sym (ap (readingAt older newer) (no-distance (newer .local)) ∙ reading-newer older newer)))
     ∙ chosen-through b older newer (newer .local) e
-    ∙ stamp-by b (newer .local .0) l (λ i. chosenOf b))
+    ∙ stamp-by b (newer .local .0) (w .local) (λ i. chosenOf b))
 
 -- the older sample lies a spread before the newer one
 distance-older : (a b : Sample) → LawfulEnds a b → distanceOf (a .local) (b .local) ≡ negℤ (pos (spreadOf a b))

@@ -10,7 +10,7 @@ use Rattle.samples.specs.Keep.{endsOf}
 use Rattle.samples.specs.declared.Sample.{Sample}
 use Rattle.samples.specs.declared.Samples.{Samples}
 use Rattle.samples.specs.declared.Ends.the-variants.{Few, Both}
-use Rattle.timeline.specs.Line.{longestReach, readingAt, NearLine}
+use Rattle.timeline.specs.Line.{longestReach, readingAt, bound, NearLine}
 use Rattle.choice.specs.declared.Candidate.the-variants.{Nothing}
 use Rattle.bridge.specs.Chosen.{chosenOf}
 use Rattle.bridge.specs.Send.{chosenSamples}
@@ -49,7 +49,7 @@ pub record StampOnLine (b : Bridge) (latch : ℕ) (g : GrandTime) : Type 0 where
   pub older : Sample
   pub newer : Sample
   pub kept : endsOf (chosenSamples b) ≡ Both older newer
-  pub near : NearLine older newer (pos (units g)) (distanceOf (latched latch) (newer .local)) 0
+  pub near : NearLine bound older newer (pos (units g)) (distanceOf (latched latch) (newer .local)) 0
 
 -- ---- the order of latches
 

@@ -50,7 +50,8 @@ pub fn through(samples: Samples, latch: LocalTime) -> Stamped
             if LONGEST_REACH < numbers_whole::abs(away) {
                 return Stamped::Refused(TOO_FAR);
             }
-            match timeline::reading(oldest, newest, away, NOTHING_MORE) {
+            let rate = samples_kept::rate_between(oldest, newest);
+            match timeline::reading(newest, rate, away, NOTHING_MORE) {
                 Moment::At(time) => Stamped::At(time),
                 Moment::Beyond => Stamped::Refused(refusals::BEYOND_RANGE),
             }

@@ -4,9 +4,9 @@ use mathlib.Core.Bool.{Bool, true, false}
 use Prim.Native.Nat.{ℕ, _+_, _<_, _≤_}
 use native.Mathlib.Omega.{arith}
 use lib.IntN.{pos, natAbs, subℕ, _-ℤ_}
-use Rattle.times.specs.Times.{second, InRange}
+use Rattle.times.specs.Times.{second}
 use Rattle.samples.specs.Rate.{Limits, steepest}
-use Rattle.samples.specs.Keep.{spreadOf, riseOf, gainedOf, gainBetween, rateBetween, keptBy, keptOf, endsOf, LawfulEnds, LawfulSamples}
+use Rattle.samples.specs.Keep.{spreadOf, riseOf, gainedOf, gainBetween, rateBetween, keptBy, keptOf, endsOf, LawfulSample, LawfulEnds, LawfulSamples}
 use Rattle.samples.specs.declared.Sample.{Sample}
 use Rattle.samples.specs.declared.Samples.{Samples}
 use Rattle.samples.specs.declared.Samples.the-variants.{Empty, One, Two}
@@ -44,13 +44,13 @@ module _ (old : Samples) (same : Bool) (new : Sample) where
   kept-two z a e o = rw (e, o)
 
 -- what is kept is lawful again
-kept-by-lawful : (gain : Gain) (a new : Sample) → gain ≡ gainBetween a new → InRange (a .grand) → InRange (new .grand) → LawfulSamples (keptBy gain a new)
+kept-by-lawful : (gain : Gain) (a new : Sample) → gain ≡ gainBetween a new → LawfulSample a → LawfulSample new → LawfulSamples (keptBy gain a new)
 kept-by-lawful (Within d) a new e h k =
     let g = within-gain (riseOf a new) (spreadOf a new) d e in
     record { oldest = h; newest = k; limits = rw (g .0) at (g .1) }
 kept-by-lawful Outside a new e h k = k
 
-pub kept-lawful : (old : Samples) (same : Bool) (new : Sample) → LawfulSamples old → InRange (new .grand) → LawfulSamples (keptOf old same new)
+pub kept-lawful : (old : Samples) (same : Bool) (new : Sample) → LawfulSamples old → LawfulSample new → LawfulSamples (keptOf old same new)
 unfolding keptOf
 kept-lawful old false new h k = k
 kept-lawful Empty true new h k = k

@@ -1,8 +1,8 @@
 -- Step 4, which samples are kept, and the two of them that a line is read off.
 use mathlib.Core.Bool.{Bool, true, false}
-use Prim.Native.Nat.{ℕ}
+use Prim.Native.Nat.{ℕ, _^_, _<_}
 use lib.IntN.{ℤ, pos, _-ℤ_}
-use Rattle.times.specs.Times.{sinceOf, units, InRange}
+use Rattle.times.specs.Times.{circle, sinceOf, units, InRange}
 use Rattle.samples.specs.Rate.{Limits, gainOf, rateOf}
 use Rattle.samples.specs.declared.Sample.{Sample}
 use Rattle.samples.specs.declared.Samples.{Samples}
@@ -48,14 +48,20 @@ endsOf Empty = Few
 endsOf (One a) = Few
 endsOf (Two a b) = Both a b
 
--- two samples that a line is read off: grand times in range, and the limits hold between them
+-- a sample's numbers: a grand time of 40 bits and 40 bits, a local time of 48, an errorTime of 32
+pub record LawfulSample (a : Sample) : Type 0 where
+  pub grand : InRange (a .grand)
+  pub local : a .local .0 < circle
+  pub error : a .error .0 < 2 ^ 32
+
+-- two samples that a line is read off: the limits hold between them
 pub record LawfulEnds (a b : Sample) : Type 0 where
-  pub oldest : InRange (a .grand)
-  pub newest : InRange (b .grand)
+  pub oldest : LawfulSample a
+  pub newest : LawfulSample b
   pub limits : Limits (gainedOf a b) (spreadOf a b)
 
 -- samples that step 4 keeps
 abbrev pub LawfulSamples : Samples → Type 0
 LawfulSamples Empty = Unit {0}
-LawfulSamples (One a) = InRange (a .grand)
+LawfulSamples (One a) = LawfulSample a
 LawfulSamples (Two a b) = LawfulEnds a b

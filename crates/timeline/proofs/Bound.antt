@@ -71,8 +71,8 @@ pub bound-least : (k : ℕ) → ReadingsWithin k → bound ≤ k
 unfolding sinceOf rateOf scaledOf readingAt
 bound-least k within =
     let ends : LawfulEnds older newer = record {
-      oldest = record { seconds = lit< tt; fraction = lit< tt };
-      newest = record { seconds = lit< tt; fraction = lit< tt };
+      oldest = record { grand = record { seconds = lit< tt; fraction = lit< tt }; local = lit< tt; error = lit< tt };
+      newest = record { grand = record { seconds = lit< tt; fraction = lit< tt }; local = lit< tt; error = lit< tt };
       limits = record { low = lit≤ tt; high = lit≤ tt; near = lit≤ tt };
     } in
     let off : 8 * 2 ^ 36 + 2 ^ 35 - 1 < k * 2 ^ 36 = within older newer before ends (lit≤ tt) in

@@ -18,7 +18,7 @@ use Rattle.samples.specs.declared.Sample.{Sample}
 use Rattle.samples.specs.declared.Samples.{Samples}
 use Rattle.samples.specs.declared.Ends.{Ends}
 use Rattle.samples.specs.declared.Ends.the-variants.{Few as TooFew, Both}
-use Rattle.timeline.specs.Line.{InReach, readingAt, lineAt, NearLine}
+use Rattle.timeline.specs.Line.{InReach, readingAt, bound, lineAt, NearLine}
 use Rattle.timeline.specs.Sent.{longestElapsed, reachOf, sentTime, sentAs, sentThrough, sentOf, sentNo}
 use Rattle.timeline.specs.declared.Sent.{Sent}
 use Rattle.timeline.specs.declared.Sent.the-variants.{At, Few, Late, Beyond}
@@ -48,7 +48,7 @@ module _ (a b : Sample) (elapsed back : ℕ) where
     }
 
     -- demand 3 for the definitions
-    pub time-near : LawfulEnds a b → NearLine a b (sentTime a b elapsed back) (reachOf elapsed back) back
+    pub time-near : LawfulEnds a b → NearLine bound a b (sentTime a b elapsed back) (reachOf elapsed back) back
     unfolding sentTime
     time-near w =
         rw (ring (spreadOf a b) (readingAt a b (reachOf elapsed back)) (pos back) (lineAt a b (reachOf elapsed back)))
@@ -150,7 +150,7 @@ module _ (samples : Samples) (t : LocalTime) (back : ℕ) (g : GrandTime) (e : E
 
   -- demand 3 for what a frame carries
   pub sent-near : (d : Departure samples t back g e) → LawfulSamples samples → back < longestElapsed
-      → NearLine (d .oldest) (d .newest) (pos (units g)) (reachOf (sinceOf t (d .newest .local)) back) back
+      → NearLine bound (d .oldest) (d .newest) (pos (units g)) (reachOf (sinceOf t (d .newest .local)) back) back
   sent-near d w hb =
-      subst (λ (z : ℤ). NearLine (d .oldest) (d .newest) z (reachOf (sinceOf t (d .newest .local)) back) back) (sym (d .time))
+      subst (λ (z : ℤ). NearLine bound (d .oldest) (d .newest) z (reachOf (sinceOf t (d .newest .local)) back) back) (sym (d .time))
       (time-near (d .oldest) (d .newest) (sinceOf t (d .newest .local)) back (d .soon) hb (ends-lawful samples (d .oldest) (d .newest) w (d .kept)))

@@ -16,9 +16,13 @@ pub record InReach (x : ℤ) (more : ℕ) : Type 0 where
   pub added : more ≤ longestReach
   pub reached : natAbs (x +ℤ pos more) ≤ longestReach
 
--- the grand time that is read x units of local time after the newest sample: g1 + x + floor(rate × x / 2^35)
+-- the grand time that is read x units of local time after the newest sample, at a rate: g1 + x + floor(rate × x / 2^35)
+abbrev pub readingBy : ℤ → Sample → ℤ → ℤ
+readingBy rate b x = pos (units (b .grand)) +ℤ advanceOf rate x
+
+-- the same off the line through the oldest and the newest sample: at the rate between them
 unfoldable pub readingAt : Sample → Sample → ℤ → ℤ
-readingAt a b x = pos (units (b .grand)) +ℤ advanceOf (rateBetween a b) x
+readingAt a b x = readingBy (rateBetween a b) b x
 
 -- a reading lies less than this many units from the exact line
 abbrev pub bound : ℕ
@@ -33,10 +37,10 @@ abbrev pub ReadingsWithin : ℕ → Type 0
 ReadingsWithin k =
     (a b : Sample) (x : ℤ) → LawfulEnds a b → natAbs x ≤ longestReach → natAbs (pos (spreadOf a b) *ℤ readingAt a b x -ℤ lineAt a b x) < k * spreadOf a b
 
--- a grand time z lies less than `bound` from the line read at x, plus back: both sides times S
-abbrev pub NearLine : Sample → Sample → ℤ → ℤ → ℕ → Type 0
-NearLine a b z x back =
-    natAbs (pos (spreadOf a b) *ℤ z -ℤ (lineAt a b x +ℤ pos (spreadOf a b) *ℤ pos back)) < bound * spreadOf a b
+-- a grand time z lies less than k units from the line read at x, plus back: both sides times S
+abbrev pub NearLine : ℕ → Sample → Sample → ℤ → ℤ → ℕ → Type 0
+NearLine k a b z x back =
+    natAbs (pos (spreadOf a b) *ℤ z -ℤ (lineAt a b x +ℤ pos (spreadOf a b) *ℤ pos back)) < k * spreadOf a b
 
 -- how far the grand time of a' is off from that of a
 abbrev pub offOf : Sample → Sample → ℤ

@@ -27,12 +27,8 @@ pub fn sent(samples: Samples, t: LocalTime, back: u64) -> Sent
                 return Sent::Late;
             }
             let error = newest.error;
-            match crate::reading(
-                oldest,
-                newest,
-                numbers_whole::difference(elapsed, back),
-                back,
-            ) {
+            let rate = samples_kept::rate_between(oldest, newest);
+            match crate::reading(newest, rate, numbers_whole::difference(elapsed, back), back) {
                 Moment::At(time) => Sent::At(time, error),
                 Moment::Beyond => Sent::Beyond,
             }

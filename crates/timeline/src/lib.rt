@@ -1,9 +1,10 @@
 // The line through the oldest and the newest kept sample of a clock: a reading of it, the grand time that is sent, and the clock's drift.
 ghost use mathlib.Core.Path.{_≡_};
-ghost use lib.IntN.{pos, _+ℤ_};
-ghost use Rattle.times.specs.Times.{momentOf};
-ghost use Rattle.samples.specs.Keep.{LawfulEnds};
-ghost use Rattle.timeline.specs.Line.{InReach, readingAt};
+ghost use Prim.Native.Nat.{_≤_};
+ghost use lib.IntN.{pos, natAbs, _+ℤ_};
+ghost use Rattle.times.specs.Times.{InRange, momentOf};
+ghost use Rattle.samples.specs.Rate.{steepest};
+ghost use Rattle.timeline.specs.Line.{InReach, readingBy};
 use samples::Sample;
 use times::ErrorTime;
 use times::GrandTime;
@@ -28,13 +29,14 @@ pub enum Drift {
     Refused,
 }
 
-// The line read at a distance x from the newest sample, before it where x is below zero, and `more` added.
-pub fn reading(oldest: Sample, newest: Sample, x: i64, more: u64) -> Moment
-    requires { ⌜ LawfulEnds oldest newest ⌝ }
+// The line of this rate read at a distance x from the newest sample, before it where x is below zero, and `more` added.
+pub fn reading(newest: Sample, rate: i64, x: i64, more: u64) -> Moment
+    requires { ⌜ InRange (newest .grand) ⌝ }
+    requires { ⌜ natAbs rate ≤ steepest ⌝ }
     requires { ⌜ InReach x more ⌝ }
-    ensures { λ r. ⌜ r ≡ momentOf (readingAt oldest newest x +ℤ pos more) ⌝ }
+    ensures { λ r. ⌜ r ≡ momentOf (readingBy rate newest x +ℤ pos more) ⌝ }
 {
-    let advance = samples_rate::advance(samples_kept::rate_between(oldest, newest), x);
+    let advance = samples_rate::advance(rate, x);
     grand::moved(
         newest.grand,
         numbers_whole::add(advance, numbers_whole::from_unsigned(more)),

@@ -20,7 +20,7 @@ arm e s q = drift-out _ _ _ (drift-done _ _ _ (e .if1 .left) (q ∙ ap driftOf s
 
 -- the last arm's number
 last : (m : tie.At-match-rest) → m .before .before .args .port ≡ mostPorts
-last m = last-port (omega (arith, m .before .if1 .left, m .before .before .pre .ports-most)) (m .match .rest)
+last m = last-port (omega (arith, m .before .if1 .left, m .before .before .pre .setup-lawful .ports-most)) (m .match .rest)
 
 pub drift-spec : {M : Type 1} → statement M
 drift-spec =

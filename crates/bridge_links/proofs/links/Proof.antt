@@ -21,7 +21,7 @@ abbrev μ-loop : tie.MeasureT-loop
 
 -- the loop's index is that of a record
 below : (c : tie.In-loop Inv-loop μ-loop) → c .before .loop .i < mostPorts
-below c = omega (arith, c .loop-test .taken, c .before .before .before .before .before .pre .ports-most)
+below c = omega (arith, c .loop-test .taken, c .before .before .before .before .before .pre .setup-lawful .ports-most)
 
 loop-holds : tie.Need-loop-holds Inv-loop μ-loop
 loop-holds c = stored-start _ _ (c .before .before .before .pre .records)

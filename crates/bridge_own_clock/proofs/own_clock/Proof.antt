@@ -21,12 +21,12 @@ returns : tie.Need-returns
 returns c =
     let t = c .before in
     let o = t .before .before .before in
-    out _ _ (own-done _ _ _ _ _ _ (o .own-clock-refusal .ensures) (t .own-clock .result) (t .before .before .if1 .taken) (t .own-clock .ensures)) (own-lawful _ _ _ _ _ (o .before .pre))
+    out _ _ (own-done _ _ _ _ _ _ (o .own-clock-refusal .ensures) (t .own-clock .result) (t .before .before .if1 .taken) (t .own-clock .ensures)) (own-lawful _ _ _ _ _ (search needs) (o .before .pre))
 
 returns-2 : tie.Need-returns-2
 returns-2 c =
     let s = c .before .before in
-    out _ _ (own-refused _ _ _ _ _ _ (c .before .own-clock-refusal .ensures) (c .if1 .left)) (own-lawful _ _ _ _ _ (s .pre))
+    out _ _ (own-refused _ _ _ _ _ _ (c .before .own-clock-refusal .ensures) (c .if1 .left)) (own-lawful _ _ _ _ _ (search needs) (s .pre))
 
 pub own-clock-spec : {M : Type 1} → statement M
 own-clock-spec = tie.close (tie.spec own-clock-refusal-requires own-clock-requires returns returns-2)

@@ -58,7 +58,7 @@ ready o =
     port-ready _ _ _ _ (sym (e .before .port-refusal .ensures) ∙ e .if1 .taken)
 
 index : (o : tie.After-own2 Inv-loop μ-loop) → start o .args .port - 1 < 8
-index o = omega (arith, ready o .low, ready o .high, start o .pre .ports-most)
+index o = omega (arith, ready o .low, ready o .high, start o .pre .setup-lawful .ports-most)
 
 -- the rank in the end is the chosen clock's
 chosen : (c : tie.After-loop Inv-loop μ-loop) → Ranks (c .before .loop .best) (chosenOf (start (c .before .before) .args .b))

@@ -38,7 +38,7 @@ ready o =
     send-ready _ _ _ _ _ (sym (e .before .send-refusal .ensures) ∙ e .if1 .taken)
 
 index : (o : tie.After-own2 Inv-loop μ-loop) → start o .args .port - 1 < 8
-index o = omega (arith, ready o .0 .low, ready o .0 .high, start o .pre .ports-most)
+index o = omega (arith, ready o .0 .low, ready o .0 .high, start o .pre .setup-lawful .ports-most)
 
 loop-holds : tie.Need-loop-holds Inv-loop μ-loop
 loop-holds c = (omega arith, ranked-own _ _ (c .own2 .ensures))
@@ -87,7 +87,7 @@ send-requires : tie.Need-send-requires Inv-loop μ-loop
 send-requires c κs =
     let j = c .before .before .before in
     let s = start (given (j .before)) in
-    (subst LawfulSamples (sym (picked j)) (samples-lawful _ (s .args .b .clock) (s .args .b .ports) (s .pre .clock-lawful) (s .pre .ports-lawful)), (s .pre .back-small, ready (given (j .before)) .1))
+    (subst LawfulSamples (sym (picked j)) (samples-lawful _ (s .args .b .clock) (s .args .b .ports) (s .pre .clock-lawful) (s .pre .ports-lawful)), (s .pre .setup-lawful .back-small, ready (given (j .before)) .1))
 
 sent : tie.Need-returns Inv-loop μ-loop
 sent c =

@@ -7,13 +7,13 @@ use mir.Val.{toZ, ofZ}
 use Prim.Native.Nat.{_≤_}
 use lib.IntN.{natAbs, +ℤ-idr}
 use Rattle.times.specs.Times.{momentOf}
-use Rattle.samples.specs.Keep.{endsOf, LawfulEnds}
+use Rattle.samples.specs.Keep.{rateBetween, endsOf, LawfulEnds}
 use Rattle.samples.specs.declared.Sample.{Sample}
 use Rattle.samples.specs.declared.Ends.the-variants.{Both}
 use Rattle.timeline.specs.Line.{longestReach, readingAt}
 use Rattle.recorder.specs.Stamp.{distanceOf}
 use Rattle.numbers.proofs.Machine.{got}
-use Rattle.samples.proofs.KeepLaws.{ends-lawful}
+use Rattle.samples.proofs.KeepLaws.{between-small, ends-lawful}
 use Rattle.recorder.proofs.StampLaws.{reach-alone, through-ends, through-far, through-as}
 use Rattle.recorder.proofs.through.Statement.{statement}
 use Rattle.recorder.proofs.through.Tie as tie
@@ -44,17 +44,32 @@ size-is c = c .abs .ensures ∙ ap natAbs (distance-is c)
 returns : tie.Need-returns
 returns c = through-far _ (both (found (c .before))) (omega (arith, size-is (c .before), c .if1 .taken))
 
-within : (c : tie.After-reading) → natAbs (distanceOf (found (c .before .before) .before .before .before .args .latch) (newest (found (c .before .before)) .local)) ≤ longestReach
-within c = omega (arith, size-is (c .before .before), c .before .if1 .left)
+-- where the distance was measured, seen from the rate
+abbrev measured : tie.After-rate-between → tie.After-abs
+measured c = c .before .before
+
+within : (c : tie.After-rate-between) → let m = found (measured c) in natAbs (distanceOf (m .before .before .before .args .latch) (newest m .local)) ≤ longestReach
+within c = omega (arith, size-is (measured c), c .before .if1 .left)
+
+-- the rate, as it is passed on
+rate-is : (c : tie.After-rate-between) →
+    let m = found (measured c) in
+    toZ w64 (ofZ w64 (c .rate-between .result)) ≡ rateBetween (oldest m) (newest m)
+rate-is c = got (c .rate-between .ok) (c .rate-between .ensures)
+
+rate-between-requires : tie.Need-rate-between-requires
+rate-between-requires c κs = lawful (found (c .before))
 
 reading-requires : tie.Need-reading-requires
 reading-requires c κs =
-    (lawful (found (c .before)), rw (distance-is (c .before)) (reach-alone _ (omega (arith, size-is (c .before), c .if1 .left))))
+    let w = lawful (found (measured c)) in
+    (w .newest .grand, (rw (rate-is c) (between-small _ _ w), rw (distance-is (measured c)) (reach-alone _ (within c))))
 
 moment-is : (c : tie.After-reading) →
-    let m = found (c .before .before) in
+    let m = found (measured (c .before)) in
     c .reading .result ≡ momentOf (readingAt (oldest m) (newest m) (distanceOf (m .before .before .before .args .latch) (newest m .local)))
-moment-is c = c .reading .ensures ∙ rw (distance-is (c .before .before)) (ap momentOf (+ℤ-idr _))
+unfolding readingAt
+moment-is c = c .reading .ensures ∙ rw (rate-is (c .before), distance-is (measured (c .before))) (ap momentOf (+ℤ-idr _))
 
 returns-2 : tie.Need-returns-2
 returns-2 c = through-ends _ (sym (c .enum-told .given .1) ∙ c .before .before .ends .ensures)
@@ -62,15 +77,15 @@ returns-2 c = through-ends _ (sym (c .enum-told .given .1) ∙ c .before .before
 returns-3 : tie.Need-returns-3
 returns-3 c =
     let a = c .before .before .before in
-    through-as _ (both (found (a .before .before))) (within a) (sym (c .before .time .given .1) ∙ moment-is a)
+    through-as _ (both (found (measured (a .before)))) (within (a .before)) (sym (c .before .time .given .1) ∙ moment-is a)
 
 returns-4 : tie.Need-returns-4
 returns-4 c =
     let a = c .before .before in
-    through-as _ (both (found (a .before .before))) (within a) (sym (c .enum-told2 .given .1) ∙ moment-is a)
+    through-as _ (both (found (measured (a .before)))) (within (a .before)) (sym (c .enum-told2 .given .1) ∙ moment-is a)
 
 pub through-spec : {M : Type 1} → statement M
 through-spec =
     tie.close
     (tie.spec (λ c κs. search needs) (λ c. search needs) (λ c. search needs) (λ c κs. search needs) (λ c κs. search needs) returns
-    reading-requires (λ c. search needs) (λ c. search needs) returns-2 returns-3 returns-4)
+    rate-between-requires reading-requires (λ c. search needs) (λ c. search needs) returns-2 returns-3 returns-4)

@@ -7,60 +7,51 @@ use mir.Syntax.{w64}
 use mir.Val.{toZ, ofZ}
 use Rattle.times.specs.Times.{units, momentOf}
 use Rattle.samples.specs.Rate.{advanceOf}
-use Rattle.samples.specs.Keep.{rateBetween}
-use Rattle.timeline.specs.Line.{readingAt}
 use Rattle.numbers.proofs.Machine.{back, got}
-use Rattle.samples.proofs.KeepLaws.{between-small}
 use Rattle.samples.proofs.RateLaws.{advance-small}
 use Rattle.timeline.proofs.Bound.{step-small}
 use Rattle.timeline.proofs.reading.Statement.{statement}
 use Rattle.timeline.proofs.reading.Tie as tie
 
-abbrev rate : tie.Start → ℤ
-rate s = rateBetween (s .args .oldest) (s .args .newest)
-
 abbrev advance : tie.Start → ℤ
-advance s = advanceOf (rate s) (s .args .x)
+advance s = advanceOf (s .args .rate) (s .args .x)
 
 -- the signed numbers that are passed on
-rate-is : (c : tie.After-rate-between) → toZ w64 (ofZ w64 (c .rate-between .result)) ≡ rate (c .before)
-rate-is c = got (c .rate-between .ok) (c .rate-between .ensures)
+rate-is : (s : tie.Start) → toZ w64 (ofZ w64 (s .args .rate)) ≡ s .args .rate
+rate-is s = back (s .args .rate) (s .fits .rate)
 
 distance-is : (s : tie.Start) → toZ w64 (ofZ w64 (s .args .x)) ≡ s .args .x
 distance-is s = back (s .args .x) (s .fits .x)
 
-advance-is : (c : tie.After-advance) → toZ w64 (ofZ w64 (c .advance .result)) ≡ advance (c .before .before)
-advance-is c = got (c .advance .ok) (c .advance .ensures ∙ rw (rate-is (c .before), distance-is (c .before .before)))
+advance-is : (c : tie.After-advance) → toZ w64 (ofZ w64 (c .advance .result)) ≡ advance (c .before)
+advance-is c = got (c .advance .ok) (c .advance .ensures ∙ rw (rate-is (c .before), distance-is (c .before)))
 
-more-is : (c : tie.After-from-unsigned) → toZ w64 (ofZ w64 (c .from-unsigned .result)) ≡ pos (c .before .before .before .args .more)
+more-is : (c : tie.After-from-unsigned) → toZ w64 (ofZ w64 (c .from-unsigned .result)) ≡ pos (c .before .before .args .more)
 more-is c = got (c .from-unsigned .ok) (c .from-unsigned .ensures)
 
 step-is : (c : tie.After-add) →
-    let s = c .before .before .before .before in
+    let s = c .before .before .before in
     toZ w64 (ofZ w64 (c .add .result)) ≡ advance s +ℤ pos (s .args .more)
 step-is c = got (c .add .ok) (c .add .ensures ∙ rw (advance-is (c .before .before), more-is (c .before)))
 
 advance-requires : tie.Need-advance-requires
-advance-requires c κs =
-    let s = c .before in
-    rw (rate-is c, distance-is s) (between-small _ _ (s .pre .0), s .pre .1 .read)
+advance-requires s κs = rw (rate-is s, distance-is s) (s .pre .1 .0, s .pre .1 .1 .read)
 
 add-requires : tie.Need-add-requires
 add-requires c κs =
-    let s = c .before .before .before in
+    let s = c .before .before in
     rw (advance-is (c .before), more-is c)
-    (omega (arith, s .pre .1 .added, advance-small (rate s) (s .args .x) (between-small _ _ (s .pre .0)) (s .pre .1 .read)))
+    (omega (arith, s .pre .1 .1 .added, advance-small (s .args .rate) (s .args .x) (s .pre .1 .0) (s .pre .1 .1 .read)))
 
 moved-requires : tie.Need-moved-requires
 moved-requires c κs =
-    let s = c .before .before .before .before in
-    (s .pre .0 .newest, rw (step-is c) (step-small (rate s) (s .args .x) (s .args .more) (between-small _ _ (s .pre .0)) (s .pre .1)))
+    let s = c .before .before .before in
+    (s .pre .0, rw (step-is c) (step-small (s .args .rate) (s .args .x) (s .args .more) (s .pre .1 .0) (s .pre .1 .1)))
 
 returns : tie.Need-returns
-unfolding readingAt
 returns c =
-    let s = c .before .before .before .before .before in
+    let s = c .before .before .before .before in
     c .moved .ensures ∙ rw (step-is (c .before)) (ap momentOf (sym (+ℤ-assoc (pos (units (s .args .newest .grand))) (advance s) (pos (s .args .more)))))
 
 pub reading-spec : {M : Type 1} → statement M
-reading-spec = tie.close (tie.spec (λ c κs. search needs) advance-requires (λ c κs. search needs) add-requires moved-requires returns)
+reading-spec = tie.close (tie.spec advance-requires (λ c κs. search needs) add-requires moved-requires returns)

@@ -6,12 +6,13 @@ use native.Mathlib.Omega.{arith}
 use mir.Syntax.{w64}
 use mir.Val.{toZ, ofZ}
 use Rattle.times.specs.Times.{sinceOf, momentOf}
-use Rattle.samples.specs.Keep.{endsOf, LawfulEnds}
+use Rattle.samples.specs.Keep.{rateBetween, endsOf, LawfulEnds}
 use Rattle.samples.specs.declared.Sample.{Sample}
 use Rattle.samples.specs.declared.Ends.the-variants.{Both}
+use Rattle.timeline.specs.Line.{readingAt}
 use Rattle.timeline.specs.Sent.{longestElapsed, reachOf, sentTime}
 use Rattle.numbers.proofs.Machine.{got}
-use Rattle.samples.proofs.KeepLaws.{ends-lawful}
+use Rattle.samples.proofs.KeepLaws.{between-small, ends-lawful}
 use Rattle.timeline.proofs.SentLaws.{in-reach, sent-through, sent-late, sent-as}
 use Rattle.timeline.proofs.departure.sent.Statement.{statement}
 use Rattle.timeline.proofs.departure.sent.Tie as tie
@@ -34,7 +35,7 @@ returns c = sent-late _ _ _ (both (c .before .before .before)) (omega arith)
 
 -- where the two ends stand, seen from the departure's distance, and that distance as it is passed on
 abbrev found : tie.After-difference → tie.After-oldest
-found c = c .before .before .before .before .before
+found c = c .before .before .before .before .before .before
 
 reach-is : (c : tie.After-difference) →
     let m = found c in
@@ -42,22 +43,32 @@ reach-is : (c : tie.After-difference) →
     toZ w64 (ofZ w64 (c .difference .result)) ≡ reachOf (sinceOf (s .args .t) (newest m .local)) (s .args .back)
 reach-is c =
     got (c .difference .ok)
-    (c .difference .ensures ∙ ap (λ (n : ℕ). reachOf n (found c .before .before .before .args .back)) (c .before .before .before .since .ensures))
+    (c .difference .ensures ∙ ap (λ (n : ℕ). reachOf n (found c .before .before .before .args .back)) (c .before .before .before .before .since .ensures))
 
 soon : (c : tie.After-difference) → let m = found c in sinceOf (m .before .before .before .args .t) (newest m .local) < longestElapsed
-soon c = omega (arith, c .before .before .before .since .ensures, c .before .before .if1 .left)
+soon c = omega (arith, c .before .before .before .before .since .ensures, c .before .before .before .if1 .left)
+
+-- the rate, as it is passed on
+rate-is : (c : tie.After-difference) → toZ w64 (ofZ w64 (c .before .rate-between .result)) ≡ rateBetween (oldest (found c)) (newest (found c))
+rate-is c = got (c .before .rate-between .ok) (c .before .rate-between .ensures)
+
+rate-between-requires : tie.Need-rate-between-requires
+rate-between-requires c κs = lawful (c .before .before .before .before)
 
 reading-requires : tie.Need-reading-requires
 reading-requires c κs =
     let m = found c in
-    (lawful m, rw (reach-is c) (in-reach (oldest m) (newest m) _ _ (soon c) (m .before .before .before .pre .1)))
+    let w = lawful m in (
+      w .newest .grand,
+      (rw (rate-is c) (between-small (oldest m) (newest m) w), rw (reach-is c) (in-reach (oldest m) (newest m) _ _ (soon c) (m .before .before .before .pre .1))),
+    )
 
 moment-is : (c : tie.After-reading) →
     let m = found (c .before) in
     let s = m .before .before .before in
     c .reading .result ≡ momentOf (sentTime (oldest m) (newest m) (sinceOf (s .args .t) (newest m .local)) (s .args .back))
-unfolding sentTime
-moment-is c = c .reading .ensures ∙ rw (reach-is (c .before))
+unfolding sentTime readingAt
+moment-is c = c .reading .ensures ∙ rw (rate-is (c .before), reach-is (c .before))
 
 returns-2 : tie.Need-returns-2
 returns-2 c = sent-through _ _ _ (sym (c .enum-told .given .1) ∙ c .before .before .ends .ensures)
@@ -76,4 +87,4 @@ pub sent-spec : {M : Type 1} → statement M
 sent-spec =
     tie.close
     (tie.spec (λ c κs. search needs) (λ c. search needs) (λ c. search needs) (λ c κs. search needs) returns
-    (λ c κs. search needs) reading-requires (λ c. search needs) (λ c. search needs) returns-2 returns-3 returns-4)
+    rate-between-requires (λ c κs. search needs) reading-requires (λ c. search needs) (λ c. search needs) returns-2 returns-3 returns-4)

@@ -1,0 +1,163 @@
+-- What Send writes, Read reads: where Send answers 0, the first 64 bytes of the output are read as exactly the fields of the rules, and what a neighbour
+-- makes of them is what Receive makes of those fields. And what hopCount and frameCount are in them.
+use mathlib.Core.Path.{_≡_, sym, ap, _∙_, subst}
+use mathlib.Core.List.{List}
+use Prim.Native.Nat.{ℕ, zero, suc, _-_, _<_, _≤_}
+use native.Mathlib.Omega.{arith}
+use borrow.Author.Tests.{eqb-true, eqb-false}
+use lib.Dec.{eqb, lit≤}
+use lib.ListN.{length, take, drop}
+use Rattle.numbers.specs.Bytes.{numberAt}
+use Rattle.times.specs.Times.{counts}
+use Rattle.choice.specs.Hop.{lastHop}
+use Rattle.choice.specs.Rank.{PrecedenceFits}
+use Rattle.choice.specs.declared.Precedence.{Precedence}
+use Rattle.choice.specs.declared.Candidate.{Candidate}
+use Rattle.choice.specs.declared.Candidate.the-variants.{Clock}
+use Rattle.frame.specs.Frame.{frameLength}
+use Rattle.frame.specs.Read.{readOf}
+use Rattle.frame.specs.Write.{writeRefusal, bytesOf, writtenOf}
+use Rattle.frame.specs.Demands.{Typed}
+use Rattle.frame.specs.declared.Fields.{Fields}
+use Rattle.frame.specs.declared.Reading.the-variants as Readings
+use Rattle.port.specs.Lawful.{LawfulAnnouncement}
+use Rattle.port.specs.Send.{sendingBytes}
+use Rattle.port.specs.declared.Sending.{Sending}
+use Rattle.port.specs.declared.Sending.the-variants.{Frame}
+use Rattle.bridge.specs.Table.{portAt}
+use Rattle.bridge.specs.Arguments.{portRefusal, sendRefusal}
+use Rattle.bridge.specs.State.{Lawful}
+use Rattle.bridge.specs.Receive.{receiveFieldsOf, receiveOf}
+use Rattle.bridge.specs.Chosen.{chosenOf}
+use Rattle.bridge.specs.Send.{chosenSamples, sendingAt, sendOf, sendBytes}
+use Rattle.bridge.specs.Demands.{SentFields}
+use Rattle.bridge.specs.declared.Bridge.{Bridge}
+use Rattle.bridge.specs.declared.Done.{Done}
+use Rattle.frame.proofs.FrameLaws.{filled}
+use Rattle.frame.proofs.Trip.{written-read, hop-byte, count-byte}
+use Rattle.port.proofs.PortLaws.{SentFor, sending-frame, sending-for, sending-written, sending-typed}
+use Rattle.bridge.proofs.CheckLaws.{Ready, send-ready}
+use Rattle.bridge.proofs.TableLaws.{chosen-lawful}
+use Rattle.bridge.proofs.StateLaws.{if-both, receive-read}
+use Rattle.bridge.proofs.Least.{chosen-own, chosen-announced}
+
+-- ---- a send that answers 0
+
+-- what it left in the output: a frame
+pub record Wrote (b : Bridge) (port t : ℕ) (out left : List ℕ) : Type 0 where
+  pub fields : Fields
+  pub ready : Ready (b .setup .n) port t × (frameLength ≤ length out)
+  pub sending : sendingAt b (port - 1) (record { 0 = t }) ≡ Frame fields
+  pub bytes : left ≡ bytesOf fields (drop frameLength out)
+
+pub wrote : (b : Bridge) (port t : ℕ) (out : List ℕ) → sendOf b port t (length out) .answer ≡ 0 → Wrote b port t out (sendBytes b port t out)
+unfolding sendOf sendBytes sendingAt
+wrote b port t out =
+    if-both (λ (d : Done) (left : List ℕ). d .answer ≡ 0 → Wrote b port t out left) (eqb (sendRefusal (b .setup .n) (b .links) port t (length out)) 0)
+    (λ q z.
+    let f = sending-frame (chosenOf b) (chosenSamples b) (b .setup .sender) (record { 0 = t }) (portAt (b .ports) (port - 1)) z in
+    record {
+      fields = f .0;
+      ready = send-ready (b .setup .n) (b .links) port t (length out) (eqb-true _ _ q);
+      sending = f .1;
+      bytes = ap (λ (x : Sending). sendingBytes x out) (f .1);
+    })
+    (λ q z. absurd (eqb-false _ _ q z))
+
+-- a frame that a port sends is one for the chosen clock
+abbrev pub SentAt : Bridge → ℕ → ℕ → Fields → Type 0
+SentAt b i t f = SentFor (chosenOf b) (chosenSamples b) (b .setup .sender) (record { 0 = t }) (portAt (b .ports) i) f
+
+pub sent-at : (b : Bridge) (i t : ℕ) (f : Fields) → sendingAt b i (record { 0 = t }) ≡ Frame f → SentAt b i t f
+unfolding sendingAt
+sent-at b i t f e = sending-for (chosenOf b) (chosenSamples b) (b .setup .sender) (record { 0 = t }) (portAt (b .ports) i) f e
+
+-- ---- hopCount and frameCount
+
+module _ {b : Bridge} {port t : ℕ} {out left : List ℕ} (w : Wrote b port t out left) where
+  -- byte 30 is the port's next frameCount
+  pub wrote-count : portAt (b .ports) (port - 1) .count < counts → numberAt left 30 1 ≡ portAt (b .ports) (port - 1) .count
+  wrote-count h =
+      let same = ap (λ (f : Fields). f .count) (sent-at b (port - 1) t (w .fields) (w .sending) .same) in
+      ap (λ (l : List ℕ). numberAt l 30 1) (w .bytes) ∙ count-byte (w .fields) (drop frameLength out) (subst (λ (n : ℕ). n < counts) same h) ∙ sym same
+
+  -- byte 29 is the chosen clock's held hop
+  pub wrote-hop : {p : Precedence} {h n : ℕ} → chosenOf b ≡ Clock p h n → h ≤ lastHop → numberAt left 29 1 ≡ h
+  wrote-hop {p} {h} {n} c l =
+      let s = sent-at b (port - 1) t (w .fields) (w .sending) in
+      let both : Clock (s .precedence) (s .hop) (s .number) ≡ Clock p h n = sym (s .chosen) ∙ c in
+      let held : s .hop ≡ h = cc in
+      let same : w .fields .hop ≡ h = sym (ap (λ (f : Fields). f .hop) (s .same)) ∙ held in
+      ap (λ (l : List ℕ). numberAt l 29 1) (w .bytes) ∙ hop-byte (w .fields) (drop frameLength out) (omega (arith, same, l)) ∙ same
+
+-- ---- of a lawful state
+
+-- the chosen clock's precedence has its bits, and its held hop is at most the last
+pub chosen-fits : (b : Bridge) {p : Precedence} {h n : ℕ} → Lawful b → chosenOf b ≡ Clock p h n → PrecedenceFits p × (h ≤ lastHop)
+chosen-fits b {p} {h} {n} lawful = by n
+  where
+    by : (n : ℕ) → chosenOf b ≡ Clock p h n → PrecedenceFits p × (h ≤ lastHop)
+    by zero e =
+        let own = chosen-own b e in
+        (subst PrecedenceFits (sym (own .0)) (lawful .setup-lawful .typed .own-fits), subst (λ (k : ℕ). k ≤ lastHop) (sym (own .1)) (lit≤ tt))
+    by (suc i) e =
+        let announced = chosen-announced b e in
+        let l = subst LawfulAnnouncement (announced .1) (lawful .ports-lawful i .announcement) in
+        (l .0, l .1)
+
+module _ (b : Bridge) (port t : ℕ) (out : List ℕ) (lawful : Lawful b) (sent : sendOf b port t (length out) .answer ≡ 0) where
+  -- byte 30 of a frame that was sent is the port's next frameCount
+  pub sent-frame-count : numberAt (sendBytes b port t out) 30 1 ≡ portAt (b .ports) (port - 1) .count
+  sent-frame-count = wrote-count (wrote b port t out sent) (lawful .ports-lawful (port - 1) .count)
+
+  -- byte 29 is the chosen clock's held hop
+  pub sent-frame-hop : {p : Precedence} {h n : ℕ} → chosenOf b ≡ Clock p h n → numberAt (sendBytes b port t out) 29 1 ≡ h
+  sent-frame-hop c = wrote-hop (wrote b port t out sent) c (chosen-fits b lawful c .1)
+
+  -- a frame that was sent is one that Write takes
+  pub sent-frame-written : (f : Fields) → sendingAt b (port - 1) (record { 0 = t }) ≡ Frame f → writeRefusal f (length out) ≡ 0
+  unfolding sendingAt
+  sent-frame-written f e =
+      let r = wrote b port t out sent .ready in
+      sending-written (chosenOf b) (chosenSamples b) (b .setup .sender) (record { 0 = t }) (portAt (b .ports) (port - 1)) f e (length out) (r .0 .time) (lawful .ports-lawful (port - 1)) (r .1)
+
+  -- each of its fields has its bits
+  sent-typed : (f : Fields) → sendingAt b (port - 1) (record { 0 = t }) ≡ Frame f → Typed f
+  unfolding sendingAt
+  sent-typed f e =
+      let s = sending-for (chosenOf b) (chosenSamples b) (b .setup .sender) (record { 0 = t }) (portAt (b .ports) (port - 1)) f e in
+      let fits = chosen-fits b lawful (s .chosen) in
+      sending-typed (chosenOf b) (chosenSamples b) (b .setup .sender) (record { 0 = t }) (portAt (b .ports) (port - 1)) f e
+      (lawful .setup-lawful .typed .address)
+      (chosen-lawful (chosenOf b) (b .clock) (b .ports) (lawful .clock-lawful) (lawful .ports-lawful))
+      (lawful .ports-lawful (port - 1)) (fits .0) (fits .1)
+
+  -- the first 64 bytes are read as the frame that was sent
+  sent-read : (f : Fields) → sendingAt b (port - 1) (record { 0 = t }) ≡ Frame f → bytesOf f (drop frameLength out) ≡ sendBytes b port t out
+      → readOf (take frameLength (sendBytes b port t out)) ≡ Readings.Frame f
+  sent-read f e bytes =
+      let z = sent-frame-written f e in
+      let same : writtenOf f out ≡ sendBytes b port t out = sym (filled f 0 out (sym z) (λ i. 0)) ∙ bytes in
+      subst (λ (l : List ℕ). readOf (take frameLength l) ≡ Readings.Frame f) same (written-read f out (sent-typed f e) z)
+
+  -- WHAT SEND WRITES, READ READS: the first 64 bytes are read as exactly the fields of the rules
+  pub sent-frame-read : SentFields b port t (take frameLength (sendBytes b port t out))
+  sent-frame-read =
+      let w = wrote b port t out sent in
+      let s = sent-at b (port - 1) t (w .fields) (w .sending) in
+      record {
+        precedence = s .precedence;
+        hop = s .hop;
+        number = s .number;
+        grand = s .grand;
+        error = s .error;
+        chosen = s .chosen;
+        time = s .sent;
+        read = sent-read (w .fields) (w .sending) (sym (w .bytes)) ∙ ap Readings.Frame (sym (s .same));
+      }
+
+  -- and what a neighbour makes of them, at a port with a link and a local time in range, is what Receive makes of those fields
+  pub sent-frame-received : (there : Bridge) (at arrival : ℕ) (f : Fields) → readOf (take frameLength (sendBytes b port t out)) ≡ Readings.Frame f
+      → portRefusal (there .setup .n) (there .links) at arrival ≡ 0
+      → receiveOf there at (take frameLength (sendBytes b port t out)) arrival ≡ receiveFieldsOf there (at - 1) f (record { 0 = arrival })
+  sent-frame-received there at arrival f read clear = sym (receive-read there at _ arrival 0 (sym clear) (Readings.Frame f) (λ i. 0) (sym read))
