@@ -1,1 +1,3 @@
 pub mod DelayLaws
+mod Shares
+pub mod CableLaws
