@@ -1,7 +1,7 @@
--- The cable: a round trip over it as it happens, the times that the latches keep, and how far the delay that the rules work out from those may be off.
+-- The cable: a round trip over it as it happens, the times that latches keep of it, and how far the delay that the rules work out from them may be off.
 use mathlib.Core.Path.{_≡_}
 use Prim.Native.Nat.{ℕ, _+_, _-_, _*_, _/_, _%_, _<_, _≤_}
-use lib.IntN.{pos, natAbs, _-ℤ_}
+use lib.IntN.{ℤ, pos, natAbs, _-ℤ_}
 use Rattle.times.specs.Times.{circle, sinceOf}
 use Rattle.times.specs.declared.LocalTime.{LocalTime}
 use Rattle.samples.specs.Rate.{parts, Limits, neighbourRateOf}
@@ -11,10 +11,10 @@ use Rattle.delay.specs.Delay.{linkDelayOf}
 use Rattle.delay.specs.declared.DelaySetting.the-variants.{Measured}
 use Rattle.delay.specs.declared.Delay.{Delay}
 
--- ---- what happens, in exact times: whole numbers of a fine unit, so many of which make a unit that every time is one
+-- ---- what happens, in exact times. They are whole numbers of a fine unit: of any times that are fractions of U, some unit is fine enough
 
--- a cable to a neighbour, and the two clocks at its ends. A frame is under way so long out to the neighbour and so long back, by our clock;
--- and while our clock goes on by `ours`, the neighbour's goes on by `theirs`
+-- a cable to a neighbour and the clocks at its ends: so many fine units make a U; while our clock goes on by `ours` the neighbour's goes on by
+-- `theirs`; and a frame is under way for `out` to the neighbour and for `back` from it, by our clock
 pub record Cable : Type 0 where
   pub fine : ℕ
   pub ours : ℕ
@@ -24,23 +24,23 @@ pub record Cable : Type 0 where
   pub divided : 0 < fine
   pub running : (0 < ours) × (0 < theirs)
 
--- an instant, by our clock and by the neighbour's
+-- an instant: what our clock and the neighbour's show then, not rounded
 pub record Instant : Type 0 where
   pub here : ℕ
   pub there : ℕ
 
--- a clock goes on from a to b, and not round its whole circle
+-- a clock goes on from a to b, by less than its circle
 pub record Onward (c : Cable) (a b : ℕ) : Type 0 where
   pub after : a ≤ b
   pub within : b ≤ a + (circle - 1) * c .fine
 
--- from one instant to another both clocks go on, each at its constant rate
+-- from an instant a to b both clocks go on, at a constant rate
 pub record Later (c : Cable) (a b : Instant) : Type 0 where
-  pub ahead : Onward c (a .here) (b .here)
-  pub abroad : Onward c (a .there) (b .there)
-  pub steady : c .theirs * (b .here - a .here) ≡ c .ours * (b .there - a .there)
+  pub here : Onward c (a .here) (b .here)
+  pub there : Onward c (a .there) (b .there)
+  pub rate : c .theirs * (b .here - a .here) ≡ c .ours * (b .there - a .there)
 
--- a round trip: our frame left us, was heard there, and the answer left there and came in here
+-- a round trip: our frame left us, and was heard there; the answer left there, and came in here
 pub record RoundTrip (c : Cable) : Type 0 where
   pub left : ℕ
   pub heard : Instant
@@ -49,13 +49,13 @@ pub record RoundTrip (c : Cable) : Type 0 where
   pub turned : Later c heard answered
   pub homeward : Onward c left (answered .here + c .back)
 
--- ---- what the latches keep of it
+-- ---- the times that the rules have of it
 
 -- a latch keeps whole units, rounded down, on the circle of local time
 abbrev pub latched : Cable → ℕ → LocalTime
 latched c x = record { 0 = x / c .fine % circle }
 
--- of a frame that left there at an instant: localTime, and p, when it came in here. The two are the pair that is stored of it
+-- of a frame that left there at an instant: its localTime, and p, when it came in here; these two are the pair that is stored
 abbrev pub localTimeOf : Cable → Instant → LocalTime
 localTimeOf c i = latched c (i .there)
 
@@ -65,52 +65,65 @@ arrivalOf c i = latched c (i .here + c .back)
 abbrev pub pairOf : Cable → Instant → Pair
 pairOf c i = Set (localTimeOf c i) (arrivalOf c i)
 
--- of our frame: thatTxTime, when it left us, and thatRxTime, when it was heard there
-abbrev pub thatTxTimeOf : (c : Cable) → RoundTrip c → LocalTime
-thatTxTimeOf c r = latched c (r .left)
+-- the spread of localTime, and that of p, from a frame that left there at a to one that left at b
+abbrev pub localSpread : Cable → Instant → Instant → ℕ
+localSpread c a b = sinceOf (localTimeOf c b) (localTimeOf c a)
 
-abbrev pub thatRxTimeOf : (c : Cable) → RoundTrip c → LocalTime
-thatRxTimeOf c r = latched c (r .heard .there)
+abbrev pub arrivalSpread : Cable → Instant → Instant → ℕ
+arrivalSpread c a b = sinceOf (arrivalOf c b) (arrivalOf c a)
 
--- the link delay by the rules, from these times and a stored pair
-abbrev pub delayBy : (c : Cable) → RoundTrip c → Pair → Delay
-delayBy c r pair =
-    let local = localTimeOf c (r .answered) in
-    let p = arrivalOf c (r .answered) in
-    linkDelayOf Measured (neighbourRateOf pair local p) local p (thatTxTimeOf c r) (thatRxTimeOf c r)
+-- from one such frame to the other the limits hold, so that a rate is taken
+abbrev pub Rated : Cable → Instant → Instant → Type 0
+Rated c a b = Limits (pos (arrivalSpread c a b) -ℤ pos (localSpread c a b)) (localSpread c a b)
 
--- the round trip is told of: its that-times are not both zero, which stands for none
-abbrev pub Told : (c : Cable) → RoundTrip c → Type 0
-Told c r = thatTxTimeOf c r .0 ≡ 0 → thatRxTimeOf c r .0 ≡ 0 → ⊥
+-- of a round trip
+module _ (c : Cable) (r : RoundTrip c) where
+  -- thatTxTime, when our frame left us, and thatRxTime, when it was heard there
+  abbrev pub thatTxTimeOf : LocalTime
+  thatTxTimeOf = latched c (r .left)
 
--- the turn, and the spread S from a stored pair, whose frame left there at e: both as the rules have them
-abbrev pub turnOf : (c : Cable) → RoundTrip c → ℕ
-turnOf c r = sinceOf (localTimeOf c (r .answered)) (thatRxTimeOf c r)
+  abbrev pub thatRxTimeOf : LocalTime
+  thatRxTimeOf = latched c (r .heard .there)
 
-abbrev pub spreadFrom : (c : Cable) → RoundTrip c → Instant → ℕ
-spreadFrom c r e = sinceOf (localTimeOf c (r .answered)) (localTimeOf c e)
+  -- a frame can tell of it: the two are not both zero, which says that nothing was heard
+  abbrev pub Told : Type 0
+  Told = thatTxTimeOf .0 ≡ 0 → thatRxTimeOf .0 ≡ 0 → ⊥
 
--- the limits hold from that pair to the new one, so that a rate is taken
-abbrev pub Rated : (c : Cable) → RoundTrip c → Instant → Type 0
-Rated c r e =
-    Limits (pos (sinceOf (arrivalOf c (r .answered)) (arrivalOf c e)) -ℤ pos (spreadFrom c r e)) (spreadFrom c r e)
+  -- the round trip and the turn
+  abbrev pub tripOf : ℕ
+  tripOf = sinceOf (arrivalOf c (r .answered)) thatTxTimeOf
 
--- ---- how far off
+  abbrev pub turnOf : ℕ
+  turnOf = sinceOf (localTimeOf c (r .answered)) thatRxTimeOf
 
--- twice what a delay of n units is off from the cable's, the mean of both directions, in fine units
-abbrev pub twiceOff : Cable → ℕ → ℕ
-twiceOff c n = natAbs (pos (n * 2 * c .fine) -ℤ pos (c .out + c .back))
+  -- the rate, and the link delay, by the rules, with a stored pair
+  abbrev pub rateBy : Pair → ℤ
+  rateBy pair = neighbourRateOf pair (localTimeOf c (r .answered)) (arrivalOf c (r .answered))
 
--- The shares of that, in units, at a spread s and a turn t. They are fractions: each is said times `over`, theirs × s × 2^36
+  abbrev pub delayBy : Pair → Delay
+  delayBy pair = linkDelayOf Measured (rateBy pair) (localTimeOf c (r .answered)) (arrivalOf c (r .answered)) thatTxTimeOf thatRxTimeOf
+
+-- ---- how far a delay is off
+
+module _ (c : Cable) (n : ℕ) where
+  -- twice what n units are off from the cable's delay, the mean of both directions, in fine units
+  abbrev pub twiceOff : ℕ
+  twiceOff = natAbs (pos (n * 2 * c .fine) -ℤ pos (c .out + c .back))
+
+  -- n units are the cable's delay but for less than b units
+  abbrev pub CloserThan : ℕ → Type 0
+  CloserThan b = twiceOff < b * 2 * c .fine
+
+-- The shares of twice that, at a spread s of the pair and a turn t. They are fractions of a unit: each is said times `whole`, theirs × s × 2^36
 module _ (c : Cable) (s t : ℕ) where
-  abbrev pub over : ℕ
-  over = c .theirs * s * (parts * 2)
+  abbrev pub whole : ℕ
+  whole = c .theirs * s * (parts * 2)
 
   -- the latches' rounding: ours / theirs + 1
   abbrev pub latchShare : ℕ
   latchShare = (c .ours + c .theirs) * s * (parts * 2)
 
-  -- what whole units leave open in the rate: ours / theirs + 1, times what the turn has beyond the spread, over the spread
+  -- what whole units leave open in the rate: (ours / theirs + 1) × (t - s) / s, and nothing where the turn is no longer than the spread
   abbrev pub openShare : ℕ
   openShare = (c .ours + c .theirs) * (t - s) * (parts * 2)
 
@@ -118,15 +131,15 @@ module _ (c : Cable) (s t : ℕ) where
   abbrev pub roundingShare : ℕ
   roundingShare = c .theirs * s * t
 
-  -- the two floors: 1
+  -- the floors of the scaled turn and of the half, which lead to opposite sides: 1
   abbrev pub floorShare : ℕ
-  floorShare = c .theirs * s * (parts * 2)
+  floorShare = whole
 
-  -- a delay of n units is the cable's, up to half of the sum of the shares
+  -- n units are the cable's delay, but for less than half of the shares' sum
   abbrev pub NearCable : ℕ → Type 0
-  NearCable n = twiceOff c n * over < (latchShare + openShare + roundingShare + floorShare) * c .fine
+  NearCable n = twiceOff c n * whole < (latchShare + openShare + roundingShare + floorShare) * c .fine
 
--- Where no rate is taken the shares are, times theirs: the latches', the rate's itself over the turn, and a floor
+-- Where the rate is 0: times theirs, the latches' share, the whole rate over the turn, |ours / theirs - 1| × t, and the half's floor
 abbrev pub NearUnrated : Cable → ℕ → ℕ → Type 0
 NearUnrated c t n =
     twiceOff c n * c .theirs < (c .ours + c .theirs + natAbs (pos (c .ours) -ℤ pos (c .theirs)) * t + c .theirs) * c .fine
