@@ -1,3 +1,5 @@
 pub mod DelayLaws
-mod Shares
+pub mod Shares
 pub mod CableLaws
+pub mod CableFigures
+pub mod Kilometre
