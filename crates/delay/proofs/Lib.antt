@@ -2,4 +2,4 @@ pub mod DelayLaws
 pub mod Shares
 pub mod CableLaws
 pub mod CableFigures
-pub mod Kilometre
+pub mod RoundTrips
