@@ -1,13 +1,13 @@
 -- The delay against the cable in whole units: less than 2 U off at usual turns, than 6 U where the turn is no longer than the spread, than 517 U ever; and against each direction.
 use mathlib.Core.Path.{_≡_, refl, sym, ap, _∙_, subst}
 use Prim.Native.Nat.{ℕ, _+_, _-_, _*_, _^_, _<_, _≤_}
-use native.Mathlib.Nat.{mul-le-mul-left, mul-le-mul-right, lt-of-mul-lt-mul-right, le-refl}
+use native.Mathlib.Nat.{mul-le-mul-right, lt-of-mul-lt-mul-right}
 use native.Mathlib.Omega.{arith}
 use lib.Dec.{lit≤}
 use lib.IntN.{pos, natAbs, _-ℤ_}
-use Rattle.samples.specs.Rate.{parts}
+use Rattle.samples.specs.Rate.{perGain, parts}
 use Rattle.delay.specs.Delay.{longestTrip, longestDelay, delayOf}
-use Rattle.delay.specs.Cable.{Cable, Instant, Later, RoundTrip, localTimeOf, arrivalOf, pairOf, localSpread, Rated, thatTxTimeOf, thatRxTimeOf, Told, tripOf, turnOf, rateBy, delayBy, twiceOff, CloserThan, NearCable}
+use Rattle.delay.specs.Cable.{Cable, Instant, Later, RoundTrip, localTimeOf, arrivalOf, pairOf, localSpread, Rated, thatTxTimeOf, thatRxTimeOf, Told, tripOf, turnOf, rateBy, delayBy, twiceOff, CloserThan}
 use Rattle.delay.specs.declared.DelaySetting.the-variants.{Measured}
 use Rattle.delay.specs.declared.Delay.the-variants.{Is}
 use Rattle.numbers.proofs.Ring.{minus-is, sub-lt, sub-ge2}
@@ -32,7 +32,7 @@ module _ (c : Cable) (r : RoundTrip c) (e : Instant) (later : Later c e (r .answ
 
   -- from the shares to whole units
   closer : (longest times b : ℕ) → turn ≤ longest → turn - spread ≤ times * spread
-      → 7999 * (1 + times) * (parts * 2) + 3999 * longest + 3999 * (parts * 2) ≤ 3999 * (b * 2) * (parts * 2) → CloserThan c ruled b
+      → (perGain * 2 - 1) * (1 + times) * (parts * 2) + (perGain - 1) * longest + (perGain - 1) * (parts * 2) ≤ (perGain - 1) * (b * 2) * (parts * 2) → CloserThan c ruled b
   closer longest times b short beyond enough =
       lt-of-mul-lt-mul-right (c .theirs * spread * (parts * 2))
       (omega (

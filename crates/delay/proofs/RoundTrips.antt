@@ -8,7 +8,7 @@ use Rattle.times.specs.Times.{circle, sinceOf}
 use Rattle.samples.specs.Rate.{gainOf, rateOf, scaledOf, neighbourRateOf}
 use Rattle.samples.specs.declared.Pair.the-variants.{Unset}
 use Rattle.delay.specs.Delay.{delayOf, measuredOf, linkDelayOf}
-use Rattle.delay.specs.Cable.{Cable, Instant, Onward, Later, RoundTrip, localTimeOf, arrivalOf, pairOf, localSpread, Rated, thatTxTimeOf, thatRxTimeOf, Told, turnOf, rateBy, delayBy, twiceOff, CloserThan, whole, latchShare, openShare, roundingShare, floorShare}
+use Rattle.delay.specs.Cable.{Cable, Instant, Later, RoundTrip, localTimeOf, arrivalOf, pairOf, localSpread, Rated, thatTxTimeOf, thatRxTimeOf, Told, turnOf, delayBy, twiceOff, whole, latchShare, openShare, roundingShare, floorShare}
 use Rattle.delay.specs.declared.Delay.the-variants.{Is}
 use Rattle.delay.proofs.CableFigures.{turn-usual, alike-near}
 
