@@ -1,11 +1,11 @@
--- The delay against the cable in whole units: less than 2 U off at usual turns, than 6 U where the turn is no longer than the spread, than 517 U ever; and against each direction.
+-- The delay against the cable in whole units: less than 2 U off at a usual turn, 6 U at one no longer than the spread, 517 U at any; and against each direction by itself.
 use mathlib.Core.Path.{_≡_, refl, sym, ap, _∙_, subst}
-use Prim.Native.Nat.{ℕ, _+_, _-_, _*_, _^_, _<_, _≤_}
+use Prim.Native.Nat.{ℕ, _+_, _-_, _*_, _/_, _^_, _<_, _≤_}
 use native.Mathlib.Nat.{mul-le-mul-right, lt-of-mul-lt-mul-right}
 use native.Mathlib.Omega.{arith}
 use lib.Dec.{lit≤}
 use lib.IntN.{pos, natAbs, _-ℤ_}
-use Rattle.samples.specs.Rate.{perGain, parts}
+use Rattle.samples.specs.Rate.{shortestSpread, perGain, parts}
 use Rattle.delay.specs.Delay.{longestTrip, longestDelay, delayOf}
 use Rattle.delay.specs.Cable.{Cable, Instant, Later, RoundTrip, localTimeOf, arrivalOf, pairOf, localSpread, Rated, thatTxTimeOf, thatRxTimeOf, Told, tripOf, turnOf, rateBy, delayBy, twiceOff, CloserThan}
 use Rattle.delay.specs.declared.DelaySetting.the-variants.{Measured}
@@ -15,9 +15,13 @@ use Rattle.delay.proofs.DelayLaws.{measured-is, delay-heard}
 use Rattle.delay.proofs.Shares.{shares-within, mean-near}
 use Rattle.delay.proofs.CableLaws.{given, rule-near, ours-near}
 
--- less than 517 U, whatever the turn
+-- no delay is off by as many units as this, whatever the turn
 abbrev pub farthest : ℕ
 farthest = 517
+
+-- a usual turn is at most this: 31 ms
+abbrev pub usualTurn : ℕ
+usualTurn = 2 ^ 35
 
 module _ (c : Cable) (r : RoundTrip c) (e : Instant) (later : Later c e (r .answered)) (rated : Rated c e (r .answered)) where
   abbrev spread : ℕ
@@ -41,11 +45,13 @@ module _ (c : Cable) (r : RoundTrip c) (e : Instant) (later : Later c e (r .answ
         mul-le-mul-right (c .fine) (shares-within (c .theirs) (c .ours) spread turn (turn - spread) longest times (b * 2) (ours-near c r e later rated) short beyond enough),
       ))
 
+  -- the longest turn is so many times the shortest spread
   rule-any : turn ≤ longestTrip → CloserThan c ruled farthest
-  rule-any short = closer longestTrip 511 farthest short (omega (arith, rated .low)) (lit≤ tt)
+  rule-any short = closer longestTrip (longestTrip / shortestSpread - 1) farthest short (omega (arith, rated .low)) (lit≤ tt)
 
-  -- a cable within 517 U of the longest delay is measured, and not refused
-  pub cable-measured : Told c r → tripOf c r ≤ longestTrip → turn ≤ longestTrip → c .out + c .back ≤ (longestDelay - farthest) * 2 * c .fine → Is ruled ≡ delayBy c r (pairOf c e)
+  -- a cable that is 517 U shorter than the longest delay is measured, and not refused
+  pub cable-measured : Told c r → tripOf c r ≤ longestTrip → turn ≤ longestTrip → c .out + c .back ≤ (longestDelay - farthest) * 2 * c .fine
+      → Is ruled ≡ delayBy c r (pairOf c e)
   cable-measured told trip short cable =
       measured-is (rateBy c r (pairOf c e)) (tripOf c r) turn trip short small
       ∙ delay-heard Measured (rateBy c r (pairOf c e)) (localTimeOf c (r .answered)) (arrivalOf c (r .answered)) (thatTxTimeOf c r) (thatRxTimeOf c r) refl told
@@ -56,7 +62,7 @@ module _ (c : Cable) (r : RoundTrip c) (e : Instant) (later : Later c e (r .answ
           omega (arith, rule-any short, cable, ap natAbs (minus-is (ruled * 2 * c .fine) (c .out + c .back)), sub-ge2 (ruled * 2 * c .fine) (c .out + c .back)) in
           omega (arith, lt-of-mul-lt-mul-right (2 * c .fine) less)
 
-  -- a delay that is given is less than 517 U off; less than 6 U where the turn is no longer than the spread, and less than 2 U where it is also no longer than 2^35
+  -- a delay that is given is less than 517 U off; less than 6 U where the turn is no longer than the spread, and less than 2 U where it is a usual one besides
   module _ (told : Told c r) (n : ℕ) (is : Is n ≡ delayBy c r (pairOf c e)) where
     by : (b : ℕ) → CloserThan c ruled b → CloserThan c n b
     by b = subst (λ (x : ℕ). CloserThan c x b) (sym (given c r n (pairOf c e) told is .0))
@@ -64,14 +70,14 @@ module _ (c : Cable) (r : RoundTrip c) (e : Instant) (later : Later c e (r .answ
     short : turn ≤ longestTrip
     short = given c r n (pairOf c e) told is .1
 
-    pub turn-any : CloserThan c n farthest
-    turn-any = by farthest (rule-any short)
+    pub any-turn : CloserThan c n farthest
+    any-turn = by farthest (rule-any short)
 
-    pub turn-within : turn ≤ spread → CloserThan c n 6
-    turn-within h = by 6 (closer longestTrip 0 6 short (omega arith) (lit≤ tt))
+    pub turn-in-spread : turn ≤ spread → CloserThan c n 6
+    turn-in-spread h = by 6 (closer longestTrip 0 6 short (omega arith) (lit≤ tt))
 
-    pub turn-usual : turn ≤ spread → turn ≤ 2 ^ 35 → CloserThan c n 2
-    turn-usual h k = by 2 (closer (2 ^ 35) 0 2 k (omega arith) (lit≤ tt))
+    pub usual-turn : turn ≤ spread → turn ≤ usualTurn → CloserThan c n 2
+    usual-turn h k = by 2 (closer usualTurn 0 2 k (omega arith) (lit≤ tt))
 
 -- ---- each direction by itself
 

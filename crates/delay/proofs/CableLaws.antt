@@ -121,7 +121,8 @@ module _ (c : Cable) (r : RoundTrip c) where
   trip-read = stretch-read c (r .heard) (r .answered) (r .turned) (c .out + c .back) (r .left) arrived (r .homeward) (omega (arith, r .outward, r .turned .here .after))
 
   -- what a delay that is given tells, whatever the pair
-  pub given : (n : ℕ) (pair : Pair) → Told c r → Is n ≡ delayBy c r pair → (n ≡ delayOf (rateBy c r pair) (tripOf c r) (turnOf c r)) × (turnOf c r ≤ longestTrip)
+  pub given : (n : ℕ) (pair : Pair) → Told c r → Is n ≡ delayBy c r pair
+      → (n ≡ delayOf (rateBy c r pair) (tripOf c r) (turnOf c r)) × (turnOf c r ≤ longestTrip)
   given n pair told e =
       let heard = delay-heard Measured (rateBy c r pair) (localTimeOf c (r .answered)) (arrivalOf c (r .answered)) (thatTxTimeOf c r) (thatRxTimeOf c r) refl told in
       let k = measured-tells (rateBy c r pair) (tripOf c r) (turnOf c r) n (e ∙ sym heard) in

@@ -10,7 +10,7 @@ use Rattle.samples.specs.declared.Pair.the-variants.{Unset}
 use Rattle.delay.specs.Delay.{delayOf, measuredOf, linkDelayOf}
 use Rattle.delay.specs.Cable.{Cable, Instant, Later, RoundTrip, localTimeOf, arrivalOf, pairOf, localSpread, Rated, thatTxTimeOf, thatRxTimeOf, Told, turnOf, delayBy, twiceOff, whole, latchShare, openShare, roundingShare, floorShare}
 use Rattle.delay.specs.declared.Delay.the-variants.{Is}
-use Rattle.delay.proofs.CableFigures.{turn-usual, alike-near}
+use Rattle.delay.proofs.CableFigures.{usual-turn, alike-near}
 
 -- ---- a kilometre
 
@@ -52,7 +52,7 @@ kilometre-near =
     let later : Later kilometre early late = omega arith in
     let rated : Rated kilometre early late = record { low = lit≤ tt; high = lit≤ tt; near = lit≤ tt } in
     let told : Told kilometre wrapped = λ e f. omega (arith, e) in
-    alike-near kilometre 5387607 2 refl (turn-usual kilometre wrapped early later rated told 5387607 (sym (a-kilometre .0)) (lit≤ tt) (lit≤ tt))
+    alike-near kilometre 5387607 2 refl (usual-turn kilometre wrapped early later rated told 5387607 (sym (a-kilometre .0)) (lit≤ tt) (lit≤ tt))
 
 -- ---- at the edge: nearly all that the shares allow
 

@@ -11,7 +11,7 @@ use Rattle.delay.specs.Delay.{linkDelayOf}
 use Rattle.delay.specs.declared.DelaySetting.the-variants.{Measured}
 use Rattle.delay.specs.declared.Delay.{Delay}
 
--- ---- what happens, in exact times. They are whole numbers of a fine unit: of any times that are fractions of U, some unit is fine enough
+-- ---- what happens, in exact times: whole numbers of a fine unit, and for any times that are fractions of U there is one fine enough
 
 -- a cable to a neighbour and the clocks at its ends: so many fine units make a U; while our clock goes on by `ours` the neighbour's goes on by
 -- `theirs`; and a frame is under way for `out` to the neighbour and for `back` from it, by our clock
@@ -34,7 +34,7 @@ pub record Onward (c : Cable) (a b : ℕ) : Type 0 where
   pub after : a ≤ b
   pub within : b ≤ a + (circle - 1) * c .fine
 
--- from an instant a to b both clocks go on, at a constant rate
+-- from an instant a to b both clocks go on, in the cable's proportion: it is the same for all instants, so that the rate is constant
 pub record Later (c : Cable) (a b : Instant) : Type 0 where
   pub here : Onward c (a .here) (b .here)
   pub there : Onward c (a .there) (b .there)
@@ -139,7 +139,9 @@ module _ (c : Cable) (s t : ℕ) where
   abbrev pub NearCable : ℕ → Type 0
   NearCable n = twiceOff c n * whole < (latchShare + openShare + roundingShare + floorShare) * c .fine
 
--- Where the rate is 0: times theirs, the latches' share, the whole rate over the turn, |ours / theirs - 1| × t, and the half's floor
+-- Where the rate is 0, the shares times theirs: the latches', as before; the whole rate over the turn, |ours / theirs - 1| × t; and 1 for the half's floor
+abbrev pub unratedShare : Cable → ℕ → ℕ
+unratedShare c t = natAbs (pos (c .ours) -ℤ pos (c .theirs)) * t
+
 abbrev pub NearUnrated : Cable → ℕ → ℕ → Type 0
-NearUnrated c t n =
-    twiceOff c n * c .theirs < (c .ours + c .theirs + natAbs (pos (c .ours) -ℤ pos (c .theirs)) * t + c .theirs) * c .fine
+NearUnrated c t n = twiceOff c n * c .theirs < (c .ours + c .theirs + unratedShare c t + c .theirs) * c .fine
