@@ -1,19 +1,20 @@
--- The delay against the cable in whole units: less than 2 U off at a usual turn, 6 U at one no longer than the spread, 517 U at any; and against each direction by itself.
+-- The delay against the cable in whole units: less than 2 U off at a usual turn, 6 U at one no longer than the spread, 517 U at any; against each direction by itself; and what that makes of a sample.
 use mathlib.Core.Path.{_≡_, refl, sym, ap, _∙_, subst}
-use Prim.Native.Nat.{ℕ, _+_, _-_, _*_, _/_, _^_, _<_, _≤_}
-use native.Mathlib.Nat.{mul-le-mul-right, lt-of-mul-lt-mul-right}
+use Prim.Native.Nat.{ℕ, _+_, _-_, _*_, _/_, _%_, _^_, _<_, _≤_}
+use native.Mathlib.Nat.{mul-le-mul-right, lt-of-mul-lt-mul-right, add-mul-div-right}
 use native.Mathlib.Omega.{arith}
 use lib.Dec.{lit≤}
-use lib.IntN.{pos, natAbs, _-ℤ_}
+use lib.IntN.{pos, natAbs, subℕ, _-ℤ_}
+use Rattle.times.specs.Times.{circle, aroundOf, sinceOf, earlierBy}
 use Rattle.samples.specs.Rate.{shortestSpread, perGain, parts}
 use Rattle.delay.specs.Delay.{longestTrip, longestDelay, delayOf}
-use Rattle.delay.specs.Cable.{Cable, Instant, Later, RoundTrip, localTimeOf, arrivalOf, pairOf, localSpread, Rated, thatTxTimeOf, thatRxTimeOf, Told, tripOf, turnOf, rateBy, delayBy, twiceOff, CloserThan}
+use Rattle.delay.specs.Cable.{Cable, Instant, Later, RoundTrip, latched, localTimeOf, arrivalOf, pairOf, localSpread, Rated, thatTxTimeOf, thatRxTimeOf, Told, tripOf, turnOf, rateBy, delayBy, twiceOff, CloserThan}
 use Rattle.delay.specs.declared.DelaySetting.the-variants.{Measured}
 use Rattle.delay.specs.declared.Delay.the-variants.{Is}
-use Rattle.numbers.proofs.Ring.{minus-is, sub-lt, sub-ge2}
+use Rattle.numbers.proofs.Ring.{same, minus-is, sub-neg-is, sub-lt, sub-ge2, natAbs-neg}
 use Rattle.delay.proofs.DelayLaws.{measured-is, delay-heard}
 use Rattle.delay.proofs.Shares.{shares-within, mean-near}
-use Rattle.delay.proofs.CableLaws.{given, rule-near, ours-near}
+use Rattle.delay.proofs.CableLaws.{around-on, given, rule-near, ours-near}
 
 -- no delay is off by as many units as this, whatever the turn
 abbrev pub farthest : ℕ
@@ -99,3 +100,35 @@ module _ (c : Cable) (n : ℕ) where
   pub alike-near : (b : ℕ) → c .out ≡ c .back → CloserThan c n b → natAbs (pos (n * c .fine) -ℤ pos (c .out)) < b * c .fine
   alike-near b alike near =
       omega (arith, out-near, near, ap natAbs (minus-is (c .out) (c .back)), sub-lt (c .out) (c .back) 1 (omega arith) (omega arith))
+
+-- ---- what the delay is for: a sample's local time, p less the delay
+
+module _ (c : Cable) (i : Instant) (n : ℕ) (before : n * c .fine ≤ i .here + c .back) (short : n ≤ longestDelay) where
+  -- a moment by our clock
+  abbrev pub sampled : ℕ
+  sampled = i .here + c .back - n * c .fine
+
+  -- the sample's local time is what a latch here would have kept of it
+  pub sample-latched : earlierBy (arrivalOf c i) n ≡ latched c sampled
+  unfolding sinceOf
+  sample-latched = λ i. record { 0 = around i }
+    where
+      units : (i .here + c .back) / c .fine ≡ sampled / c .fine + n
+      units = ap (λ (x : ℕ). x / c .fine) (omega (arith, before)) ∙ add-mul-div-right sampled n (c .divided)
+
+      on-circle : n ≡ n % circle
+      on-circle = omega arith
+
+      around : aroundOf ((i .here + c .back) / c .fine % circle) n circle ≡ sampled / c .fine % circle
+      around =
+          ap (λ (x : ℕ). aroundOf (x % circle) n circle) units ∙ ap (λ (x : ℕ). aroundOf ((sampled / c .fine + n) % circle) x circle) on-circle
+          ∙ around-on n (sampled / c .fine)
+
+  -- which is when the frame left there, but for what the delay is off from the way back
+  pub sample-near : natAbs (pos sampled -ℤ pos (i .here)) * 2 ≤ twiceOff c n + natAbs (pos (c .back) -ℤ pos (c .out))
+  sample-near = rw as-back (back-near c n)
+    where
+      as-back : natAbs (pos sampled -ℤ pos (i .here)) ≡ natAbs (pos (n * c .fine) -ℤ pos (c .back))
+      as-back =
+          ap natAbs (minus-is sampled (i .here) ∙ same sampled (i .here) (c .back) (n * c .fine) (omega (arith, before)) ∙ sym (sub-neg-is (n * c .fine) (c .back)))
+          ∙ natAbs-neg (subℕ (n * c .fine) (c .back)) ∙ ap natAbs (sym (minus-is (n * c .fine) (c .back)))

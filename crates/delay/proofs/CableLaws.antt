@@ -1,7 +1,7 @@
 -- The delay is the cable's: what the rules work out from the latched times of a round trip is off from the cable's delay by less than named shares.
 use mathlib.Core.Path.{_≡_, refl, sym, ap, _∙_, subst}
 use Prim.Native.Nat.{ℕ, suc, _+_, _-_, _*_, _/_, _%_, _<_, _≤_}
-use native.Mathlib.Nat.{div-add-mod, mod-lt, mod-mod, add-mod-mod, mul-lt-mul-of-pos-left, lt-of-mul-lt-mul-left, lt-of-le-of-lt, mul-le-mul-right}
+use native.Mathlib.Nat.{div-add-mod, mod-lt, mod-mod, mod-eq-of-lt, add-mod, mul-lt-mul-of-pos-left, lt-of-mul-lt-mul-left, lt-of-le-of-lt, mul-le-mul-right}
 use native.Mathlib.Omega.{arith}
 use lib.IntN.{ℤ, pos, natAbs, _+ℤ_, _-ℤ_, _*ℤ_}
 use Rattle.numbers.specs.Whole.{floorDiv}
@@ -22,13 +22,13 @@ use Rattle.delay.proofs.Shares.{Stretch, stretch-balance, floors-off, n
 
 -- ---- latched times
 
--- round the circle, the way from y to what lies n further, less than a circle
-around-less : (y n : ℕ) → n < circle → aroundOf ((n + y) % circle) (y % circle) circle ≡ n
-around-less y n h =
-    rw (mod-mod (n + y) circle, mod-mod y circle, ← add-mod-mod n y circle) (step (y % circle) (mod-lt y (omega arith)))
+-- round the circle, the way from y to what lies n further
+pub around-on : (y n : ℕ) → aroundOf ((n + y) % circle) (y % circle) circle ≡ n % circle
+around-on y n =
+    rw (mod-mod (n + y) circle, mod-mod y circle, add-mod n y circle) (step (n % circle) (y % circle) (mod-lt n (omega arith)) (mod-lt y (omega arith)))
   where
-    step : (r : ℕ) → r < circle → ((n + r) % circle + circle - r) % circle ≡ n
-    step r k = omega arith
+    step : (x r : ℕ) → x < circle → r < circle → ((x + r) % circle + circle - r) % circle ≡ x
+    step x r h k = omega arith
 
 -- the difference of two latched times, across the wrap too, is what passed, but for what the latches leave
 module _ (c : Cable) (a b : ℕ) (on : Onward c a b) where
@@ -41,7 +41,8 @@ module _ (c : Cable) (a b : ℕ) (on : Onward c a b) where
       let low : a / k < suc (b / k) = lt-of-mul-lt-mul-left k (omega (arith, div-add-mod a k, div-add-mod b k, mod-lt b (c .divided), on .after)) in
       let high : b / k < a / k + circle = lt-of-mul-lt-mul-left k (omega (arith, div-add-mod a k, div-add-mod b k, mod-lt a (c .divided), on .within)) in
       let units : b / k ≡ b / k - a / k + a / k = omega arith in
-      rw (units, around-less (a / k) (b / k - a / k) (omega arith))
+      let short : b / k - a / k < circle = omega arith in
+      rw (units, around-on (a / k) (b / k - a / k), mod-eq-of-lt short)
       (rests (b / k - a / k) (a / k) (div-add-mod a k) (ap (λ (x : ℕ). k * x + b % k) (sym units) ∙ div-add-mod b k))
     where
       rests : (n y : ℕ) → k * y + a % k ≡ a → k * (n + y) + b % k ≡ b → k * n + b % k ≡ b - a + a % k
