@@ -1,7 +1,7 @@
 -- The delay is the cable's: what the rules work out from the latched times of a round trip is off from the cable's delay by less than named shares.
 use mathlib.Core.Path.{_≡_, refl, sym, ap, _∙_, subst}
 use Prim.Native.Nat.{ℕ, suc, _+_, _-_, _*_, _/_, _%_, _<_, _≤_}
-use native.Mathlib.Nat.{div-add-mod, mod-lt, mod-mod, mod-eq-of-lt, add-mod, mul-lt-mul-of-pos-left, lt-of-mul-lt-mul-left, lt-of-le-of-lt, mul-le-mul-right}
+use native.Mathlib.Nat.{div-add-mod, mod-lt, mod-mod, mod-eq-of-lt, add-mod, lt-of-mul-lt-mul-left, lt-of-le-of-lt, mul-le-mul-right}
 use native.Mathlib.Omega.{arith}
 use lib.IntN.{ℤ, pos, natAbs, _+ℤ_, _-ℤ_, _*ℤ_}
 use Rattle.numbers.specs.Whole.{floorDiv}
