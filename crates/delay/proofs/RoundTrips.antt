@@ -56,10 +56,14 @@ kilometre-near =
 
 -- ---- at the edge: nearly all that the shares allow
 
--- a delay of n units is off by more than so many thousandths of the shares' sum
-abbrev Reached : Cable → ℕ → ℕ → ℕ → ℕ → Type 0
-Reached c s t n thousandths =
-    thousandths * (latchShare c s t + openShare c s t + roundingShare c s t + floorShare c s t) * c .fine < 1000 * (twiceOff c n * whole c s t)
+-- a round trip and a stored pair of which the theorem speaks, whose delay of n units is off by more than so many thousandths of the shares' sum
+pub record Reached (c : Cable) (r : RoundTrip c) (e : Instant) (n thousandths : ℕ) : Type 0 where
+  pub later : Later c e (r .answered)
+  pub rated : Rated c e (r .answered)
+  pub told : Told c r
+  pub is : delayBy c r (pairOf c e) ≡ Is n
+  pub off : let s = localSpread c e (r .answered) in let t = turnOf c r in
+      thousandths * (latchShare c s t + openShare c s t + roundingShare c s t + floorShare c s t) * c .fine < 1000 * (twiceOff c n * whole c s t)
 
 -- the spread is half a second, in which our clock gains 1,016 units, 63 parts and a half; the turn is a little shorter
 abbrev even : Cable
@@ -79,10 +83,9 @@ evenTrip = record {
 }
 
 -- latches, rate and floors lead down together: 5.495 U too short, of 5.496
-pub even-reached : (delayBy even evenTrip (pairOf even evenPair) ≡ Is 5387607)
-    × Reached even (localSpread even evenPair (evenTrip .answered)) (turnOf even evenTrip) 5387607 999
+pub even-reached : Reached even evenTrip evenPair 5387607 999
 unfolding sinceOf gainOf rateOf scaledOf neighbourRateOf delayOf measuredOf linkDelayOf
-even-reached = (refl, lit< tt)
+even-reached = record { later = omega arith; rated = record { low = lit≤ tt; high = lit≤ tt; near = lit≤ tt }; told = λ e f. omega (arith, e); is = refl; off = lit< tt }
 
 -- the spread is a millisecond and the turn half a second, so that what is open in the rate weighs most
 abbrev long : Cable
@@ -102,7 +105,6 @@ longTrip = record {
 }
 
 -- 515 U too short, of 516.2
-pub long-reached : (delayBy long longTrip (pairOf long longPair) ≡ Is 5387607)
-    × Reached long (localSpread long longPair (longTrip .answered)) (turnOf long longTrip) 5387607 997
+pub long-reached : Reached long longTrip longPair 5387607 997
 unfolding sinceOf gainOf rateOf scaledOf neighbourRateOf delayOf measuredOf linkDelayOf
-long-reached = (refl, lit< tt)
+long-reached = record { later = omega arith; rated = record { low = lit≤ tt; high = lit≤ tt; near = lit≤ tt }; told = λ e f. omega (arith, e); is = refl; off = lit< tt }
