@@ -33,13 +33,17 @@ module _ (rate : ℤ) (trip turn : ℕ) where
   unfolding measuredOf
   measured-long f = rw (refuted short (λ e. let k = short-tells e in f (k .0) (k .1) (k .2)))
 
-  pub measured-small : (n : ℕ) → Is n ≡ measuredOf rate trip turn → n ≤ longestDelay
+  -- a delay that is given is the rule's, and no part of it is too long
+  pub measured-tells : (n : ℕ) → Is n ≡ measuredOf rate trip turn → (n ≡ delayOf rate trip turn) × (turn ≤ longestTrip) × (n ≤ longestDelay)
   unfolding measuredOf
-  measured-small n e = go short refl e
+  measured-tells n e = go short refl e
     where
-      go : (t : Bool) → short ≡ t → Is n ≡ cond t (Is (delayOf rate trip turn)) TooLong → n ≤ longestDelay
-      go true k f = let g : n ≡ delayOf rate trip turn = cc in omega (arith, short-tells k .2)
-      go false k f = let z : _≡_ {A = ℕ} 0 1 = cc in omega arith
+      go : (t : Bool) → short ≡ t → Is n ≡ cond t (Is (delayOf rate trip turn)) TooLong → (n ≡ delayOf rate trip turn) × (turn ≤ longestTrip) × (n ≤ longestDelay)
+      go true k f =
+          let g : n ≡ delayOf rate trip turn = cc in
+          let h = short-tells k in
+          (g, h .1, omega (arith, h .2))
+      go false k f = let z : _≡_ {A = ℕ} 0 1 = cc in absurd (omega arith)
 
 module _ (setting : DelaySetting) (rate : ℤ) (local p tx rx : LocalTime) where
   -- ---- by the port's setting
@@ -64,7 +68,7 @@ delay-small rate local p tx rx n e = go (eqb (tx .0) 0 && eqb (rx .0) 0) e
   where
     go : (t : Bool) → Is n ≡ cond t (Is 0) (measuredOf rate (sinceOf p tx) (sinceOf local rx)) → n ≤ longestDelay
     go true f = let g : n ≡ 0 = cc in omega arith
-    go false f = measured-small rate (sinceOf p tx) (sinceOf local rx) n f
+    go false f = measured-tells rate (sinceOf p tx) (sinceOf local rx) n f .2
 
 -- the numbers of the answers
 pub delay-numbers : (n : ℕ) → (delayNo (Is n) ≡ 0) × (delayNo TooLong ≡ 9)

@@ -1,1 +1,5 @@
 pub mod DelayLaws
+pub mod Shares
+pub mod CableLaws
+pub mod CableFigures
+pub mod RoundTrips
