@@ -46,6 +46,11 @@ two-reads p b line s t t₁ t₂ s₁ s₂ h e₁ k e₂ =
       (λ i. e₁ i ++ (e₂ ∙ same .2) i) ∙ ap (λ (x : Fed). x .text) joined,
     )
 
+-- a session that is ready is what no bytes leave of it
+pub ready-leaves : (p : ℕ) (s : Session) → Ready s → Leaves (fedOf p (s .bridge) (lineOf s) []) s
+unfolding fedOf
+ready-leaves p s r = record { next = refl; line = sym (take-all keptBytes (lineOf s) (rw (length-take (s .len) (s .text)) (omega (arith, r .short)))) }
+
 -- ---- turn by turn
 
 module _ (p : ℕ) (s : Session) (bytes : List ℕ) where
@@ -54,8 +59,7 @@ module _ (p : ℕ) (s : Session) (bytes : List ℕ) where
   before n = fedOf p (s .bridge) (lineOf s) (part bytes 0 n)
 
   pub turns-none : Ready s → Leaves (before 0) s
-  unfolding fedOf
-  turns-none r = record { next = refl; line = sym (take-all keptBytes (lineOf s) (rw (length-take (s .len) (s .text)) (omega (arith, r .short)))) }
+  turns-none r = ready-leaves p s r
 
   -- what a turn adds to them
   pub turns-on : (from : ℕ) (s₁ : Session) (r : Progress) (t out : List ℕ) → Leaves (before from) s₁ → t ≡ before from .text → Turned p s₁ bytes from r out

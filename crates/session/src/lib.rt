@@ -4,9 +4,10 @@ pub mod lines;
 ghost use mathlib.Core.Path.{_≡_};
 ghost use mathlib.Core.List.{[]};
 ghost use Prim.Native.Nat.{_≤_};
-ghost use lib.ListN.{length};
+ghost use lib.ListN.{length, take};
 ghost use Rattle.columns.specs.Columns.{longestAnswer};
 ghost use Rattle.session_programs.specs.Programs.{startBy};
+ghost use Rattle.session.specs.Input.{restText};
 ghost use Rattle.session.specs.Session.{lineOf, Ready, Turned};
 use crate::lines::NEWLINE;
 use crate::lines::kept;
@@ -77,4 +78,18 @@ pub fn turn(program: u8, s: Session, bytes: &[u8], from: usize, out: &mut [u8]) 
         filled: lines.filled,
         rest: lines.rest,
     }
+}
+
+// Answers what is left of a line at the end of the input; an empty rest is no line. How much of the output is filled.
+pub fn at_end(program: u8, s: Session, out: &mut [u8]) -> usize
+    requires { ⌜ Ready s ⌝ }
+    requires { ⌜ longestAnswer ≤ length (now out) ⌝ }
+    ensures { λ r. ⌜ r ≤ length (now (out .exit)) ⌝ }
+    ensures { λ r. ⌜ take r (now (out .exit)) ≡ restText program (s .bridge) (lineOf s) ⌝ }
+{
+    if s.len == 0 {
+        return 0;
+    }
+    let end = turn(program, s, b"\n", 0, out);
+    end.filled
 }
