@@ -52,7 +52,7 @@ unfolding receiveOf receiveFieldsOf readOf parted
 receive-leaves b port frame arrival l =
     if-when (λ (d : Done). 7 ≤ d .answer → FrameNoted b port frame arrival (d .next)) (eqb (portRefusal (b .setup .n) (b .links) port arrival) 0)
     (λ e. let r = port-ready (b .setup .n) (b .links) port arrival (eqb-true _ _ e) in
-    by (readRefusal frame) (read-is (λ (k : ℕ). k ≤ 6) frame (omega arith) (omega arith) (omega arith) (omega arith)) (omega (arith, r .low, r .high, l .ports-most, l .records)))
+    by (readRefusal frame) (read-is (λ (k : ℕ). k ≤ 6) frame (omega arith) (omega arith) (omega arith) (omega arith)) (omega (arith, r .low, r .high, l .setup-lawful .ports-most, l .records)))
     (λ _ h. absurd (port-is (λ (k : ℕ). 7 ≤ k → ⊥) (b .setup .n) (b .links) port arrival (λ h. omega arith) (λ h. omega arith) (λ h. omega arith) h))
   where
     i : ℕ
@@ -95,7 +95,7 @@ send-leaves b port t room l =
     let held = portAt (b .ports) (port - 1) in
     let r = send-ready (b .setup .n) (b .links) port t room (eqb-true _ _ e) .0 in
     record {
-      used = subst (Used held) (sym (stored-there b (port - 1) (usedPort held) (omega (arith, r .low, r .high, l .ports-most, l .records)))) (sent-used held);
+      used = subst (Used held) (sym (stored-there b (port - 1) (usedPort held) (omega (arith, r .low, r .high, l .setup-lawful .ports-most, l .records)))) (sent-used held);
       beside = stored-beside b (port - 1) (usedPort held);
     })
     (λ _ h. absurd (send-is (λ (k : ℕ). 10 ≤ k → ⊥) (b .setup .n) (b .links) port t room (λ h. omega arith) (λ h. omega arith) (λ h. omega arith) (λ h. omega arith) h))

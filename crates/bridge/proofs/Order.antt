@@ -188,4 +188,4 @@ send-lowest b port t room l =
     (refused-order b _ _ (portConditions (b .setup .n) (b .links) port t ++ (given 4 (room < 64) ∷ [])) _ refl
     (on-port-order (b .setup .n) (b .links) port t (first-unless (most-fails 64 room) (nowhere refl)))
     (departure-order (chosenOf b) (chosenSamples b) (b .setup .sender) (record { 0 = t }) (portAt (b .ports) (port - 1))
-    (chosen-lawful (chosenOf b) (b .clock) (b .ports) (l .clock-lawful) (l .ports-lawful)) (l .back-small)))
+    (chosen-lawful (chosenOf b) (b .clock) (b .ports) (l .clock-lawful) (l .ports-lawful)) (l .setup-lawful .back-small)))

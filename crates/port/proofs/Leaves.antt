@@ -22,7 +22,7 @@ pub received-noted : (setting : Setting) (chosen : ℕ) (f : Fields) (at : Local
 received-noted setting chosen f at port =
     received-is setting chosen f at port (λ (d : PortDone). (d .answer ≡ 0 → ⊥) → Noted (f .count) at port (d .port))
     (λ _ _ _ _. record { preceding = refl; announcement = refl; samples = refl; pair = refl; echo = refl; next = refl })
-    (λ _ _ _ _ refused. absurd (refused refl))
+    (λ _ _ _ _ _ refused. absurd (refused refl))
 
 -- a reading of the own clock that is not taken is noted
 pub own-reading-noted : (count : ℕ) (grand : GrandTime) (now : LocalTime) (clock : OwnClock)
@@ -30,7 +30,7 @@ pub own-reading-noted : (count : ℕ) (grand : GrandTime) (now : LocalTime) (clo
 own-reading-noted count grand now clock =
     own-reading-is count grand now clock (λ (d : ClockDone). (d .answer ≡ 0 → ⊥) → NotedClock count now clock (d .clock))
     (λ _. record { preceding = refl; samples = refl })
-    (λ _ refused. absurd (refused refl))
+    (λ _ _ _ refused. absurd (refused refl))
 
 -- a send uses the next frameCount up
 pub sent-used : (port : Port) → Used port (usedPort port)
