@@ -1,7 +1,6 @@
 -- What a refusal leaves of the state, for each call that stores something of what it refuses.
 use mathlib.Core.Path.{_≡_, refl, sym, subst}
 use mathlib.Core.List.{List}
-use mathlib.Core.Logic.{_≢_}
 use Prim.Native.Nat.{ℕ, zero, suc, _-_, _<_, _≤_}
 use native.Mathlib.Omega.{arith}
 use lib.Dec.{eqb}
@@ -14,7 +13,6 @@ use Rattle.choice.specs.Choose.{chosenHop}
 use Rattle.frame.specs.Frame.{fieldsOf}
 use Rattle.frame.specs.Read.{rowsOf, readRefusal, readAs, readOf}
 use Rattle.port.specs.Record.{emptyPort, usedPort}
-use Rattle.port.specs.Own.{ownReadingOf}
 use Rattle.port.specs.Receive.{receivedOf}
 use Rattle.port.specs.Leaves.{Noted, Used}
 use Rattle.port.specs.declared.Port.{Port}
@@ -46,6 +44,7 @@ module _ (b : Bridge) (i : ℕ) (port : Port) where
 
 -- ---- Receive
 
+-- refused with 7 to 9: frameCount and arrival are stored in the port's record, and nothing else
 pub receive-leaves : (b : Bridge) (port : ℕ) (frame : List ℕ) (arrival : ℕ) → Lawful b → 7 ≤ receiveOf b port frame arrival .answer
     → FrameNoted b port frame arrival (receiveOf b port frame arrival .next)
 unfolding receiveOf receiveFieldsOf readOf parted
@@ -74,6 +73,7 @@ receive-leaves b port frame arrival l =
 
 -- ---- Own clock
 
+-- refused with 8: frameCount and now are stored, and nothing else
 pub own-clock-leaves : (b : Bridge) (count seconds fraction at : ℕ) → ownClockOf b count seconds fraction at .answer ≡ 8
     → ReadingNoted b count at (ownClockOf b count seconds fraction at .next)
 unfolding ownClockOf
@@ -87,6 +87,7 @@ own-clock-leaves b count seconds fraction at =
 
 -- ---- Send
 
+-- refused with 10 to 13: the port's next frameCount is used up, and nothing else is stored
 pub send-leaves : (b : Bridge) (port t room : ℕ) → Lawful b → 10 ≤ sendOf b port t room .answer → CountUsed b port (sendOf b port t room .next)
 unfolding sendOf
 send-leaves b port t room l =

@@ -17,9 +17,11 @@ use Rattle.refusals.proofs.Literals.{numbers-written, both-written}
 use Rattle.frame.proofs.Literals.{frame-written}
 use Rattle.port.proofs.Literals.{records-written}
 
+-- the part that stands in this crate
 bridge-written : AsWritten bridgeLiterals
 unfolding bridgeLiterals endsOf driftOf samplesAt portRefusal sendRefusal ownClockRefusal maskBeyond delayFits delaysFit setupFits setupOf linksOf ageOf driftAt
 bridge-written = refl
 
+-- the whole table
 pub as-written : AsWritten literals
 as-written = both-written numbers _ numbers-written (both-written frameLiterals _ frame-written (both-written recordLiterals _ records-written bridge-written))

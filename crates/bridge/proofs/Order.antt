@@ -70,6 +70,7 @@ delays-fail (suc n) (s ∷ settings) = fails-same (⊎-elim at-first at-next) sp
     split (zero, l, h) = inl h
     split (suc i, l, h) = inr (i, omega (arith, l), h)
 
+-- each part of the test that Setup makes
 setup-checks : (s : Setup) → Checks 1 (setupFits s) (setupConditions s)
 unfolding setupFits
 setup-checks s =
@@ -80,6 +81,7 @@ setup-checks s =
     (check-both (fails-same (λ h. omega (arith, h)) (λ h. omega (arith, h)) (less-fails (s .sender .back) (2 ^ 39)))
     (check (delays-fail (s .n) (s .settings)))))))
 
+-- Setup refuses with 1 where one of its conditions holds, and else not
 pub setup-lowest : (s : Setup) → Lowest (setupConditions s) (setupOf s .answer)
 unfolding setupOf
 setup-lowest s = first-lowest 1 refl (checked (λ (d : Done). d .answer) (answers 0 (freshOf s)) (answers 1 noBridge) refl refl (setup-checks s))
@@ -104,6 +106,7 @@ top-bit (suc steps) n mask l h =
         (n, omega arith, omega arith)
     by false e higher = let r = higher (ltb-false _ _ e) in (r .0, omega (arith, r .1), r .2)
 
+-- so the test of a mask finds a bit beyond n
 mask-tells : (n mask : ℕ) → Tells (maskBeyond n mask) (BitBeyond n mask)
 unfolding maskBeyond
 mask-tells n mask = record {
@@ -111,6 +114,7 @@ mask-tells n mask = record {
   not = λ e h. omega (arith, link-beyond n mask (h .0) (leb-false _ _ e) (h .1), h .2);
 }
 
+-- Links, Age and Drift refuse with 2 where their condition holds, and else not
 pub links-lowest : (b : Bridge) (mask : ℕ) → Lowest (linksConditions b mask) (linkNo (linksOf b mask .answer))
 unfolding linksOf
 links-lowest b mask = first-lowest 1 refl (first-if (λ (d : Linked). linkNo (d .answer)) (mask-tells (b .setup .n) mask) (λ _. nowhere refl))
@@ -129,13 +133,14 @@ drift-lowest b port = first-lowest 1 refl (first-if driftNo (less-tells (b .setu
 
 -- ---- a port
 
--- the mask has the port's bit
+-- the test of a link finds the port's bit set
 link-fails : (links port : ℕ) → Fails (hasLink links port) (bit links (port - 1) ≡ 0)
 link-fails links port = record {
   is = λ e. let other = eqb-false (bit links (port - 1)) 1 e in omega (arith, other);
   not = λ e h. omega (arith, eqb-true (bit links (port - 1)) 1 e, h);
 }
 
+-- 2 and 3, and then the rest
 on-port-order : (n links port at : ℕ) {rest : ℕ} {cs : List Condition} → First rest cs → First (onPort n links port at rest) (portConditions n links port at ++ cs)
 on-port-order n links port at f =
     first-unless (most-fails 1 port)
@@ -151,6 +156,7 @@ refused-order b k d cs ds a f g = by (eqb k 0) refl
 
 -- ---- Own clock
 
+-- the first of 2, 10 and 8 whose condition holds
 pub own-clock-order : (b : Bridge) (count seconds fraction at : ℕ) → First (ownClockOf b count seconds fraction at .answer) (ownClockConditions b count seconds fraction at)
 unfolding ownClockOf ownClockRefusal
 own-clock-order b count seconds fraction at =
@@ -162,6 +168,7 @@ own-clock-order b count seconds fraction at =
 
 -- ---- Receive
 
+-- the lowest of 2 to 9 whose condition holds
 pub receive-lowest : (b : Bridge) (port : ℕ) (frame : List ℕ) (arrival : ℕ) → Lowest (receiveConditions b port frame arrival) (receiveOf b port frame arrival .answer)
 unfolding receiveOf receiveFieldsOf readOf portRefusal parted
 receive-lowest b port frame arrival =
@@ -181,6 +188,7 @@ receive-lowest b port frame arrival =
 
 -- ---- Send
 
+-- the lowest of 2 to 4 and 10 to 13 whose condition holds
 pub send-lowest : (b : Bridge) (port t room : ℕ) → Lawful b → Lowest (sendConditions b port t room) (sendOf b port t room .answer)
 unfolding sendOf sendingAt sendRefusal
 send-lowest b port t room l =

@@ -1,4 +1,4 @@
--- What a refusal leaves of the state: each part by itself. "Store the frameCount and arrival time of the frame, .. and nothing else; a send .. uses up the port's next frameCount and stores nothing else."
+-- What a refusal leaves of the state: each part by itself, where document 01 says "and nothing else".
 use mathlib.Core.Path.{_≡_}
 use mathlib.Core.List.{List}
 use mathlib.Core.Logic.{_≢_}
@@ -31,7 +31,7 @@ pub record ReadingNoted (b : Bridge) (count now : ℕ) (left : Bridge) : Type 0 
   pub noted : NotedClock count (record { 0 = now }) (b .clock) (left .clock)
   pub beside : BesideClock b left
 
--- Send, refused with 10 to 13, and done
+-- Send, refused with 10 to 13
 pub record CountUsed (b : Bridge) (port : ℕ) (left : Bridge) : Type 0 where
   pub used : Used (portAt (b .ports) (port - 1)) (portAt (left .ports) (port - 1))
   pub beside : BesideRecord (port - 1) b left

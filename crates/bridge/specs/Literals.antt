@@ -14,7 +14,6 @@ use Rattle.bridge.specs.Setup.{defaultTimeout, defaultBack, noBridge, se
 use Rattle.bridge.specs.Links.{linksOf, linkNo}
 use Rattle.bridge.specs.Age.{ageOf}
 use Rattle.bridge.specs.Drift.{driftAt}
-use Rattle.bridge.specs.declared.Setup.{Setup}
 
 -- ---- Setup
 

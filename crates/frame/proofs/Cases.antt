@@ -9,7 +9,7 @@ use denote.Ref.{RefT, ptr, now}
 use Rattle.choice.specs.Precedence.{precedenceOf, keyOf}
 use Rattle.choice.specs.declared.Precedence.{Precedence}
 use Rattle.frame.specs.Read.{readOf}
-use Rattle.frame.specs.Better.{standingOf, winnerOf, pieceBy, betterPartOf}
+use Rattle.frame.specs.Better.{winnerOf, pieceBy, betterPartOf}
 use Rattle.frame.specs.declared.Fields.{Fields}
 use Rattle.frame.specs.declared.Reading.the-variants.{Frame}
 use Rattle.frame.specs.declared.Standing.the-variants.{Stands}

@@ -3,7 +3,6 @@ use mathlib.Core.Path.{_≡_, refl, sym}
 use mathlib.Core.Bool.{Bool, true, false}
 use mathlib.Core.List.{List, _∷_}
 use Prim.Native.Nat.{ℕ, zero, suc, _^_}
-use lib.Dec.{ltb, leb, eqb}
 use lib.ListN.{length}
 use Rattle.refusals.specs.Order.{Condition, given, Lowest, First, nowhere, here, later}
 use Rattle.numbers.specs.Bytes.{numberAt}
@@ -23,6 +22,7 @@ first-unless {t} {P} {cs} {k} {j} d f = by t refl where
 
 -- ---- Read
 
+-- 4, then 5, then 6
 pub read-order : (s : List ℕ) → First (readRefusal s) (readConditions s)
 unfolding readRefusal parted
 read-order s =
@@ -41,11 +41,13 @@ read-number s = by (readRefusal s) where
   by zero = refl
   by (suc k) = refl
 
+-- the lowest of 4 to 6 whose condition holds
 pub read-lowest : (s : List ℕ) → Lowest (readConditions s) (readNo (readOf s))
 read-lowest s = first-lowest 1 refl (same-number (sym (read-number s)) (read-order s))
 
 -- ---- Write
 
+-- 2, then 4
 write-order : (f : Fields) (room : ℕ) → First (writeRefusal f room) (writeConditions f room)
 unfolding writeRefusal
 write-order f room =
@@ -56,5 +58,6 @@ write-order f room =
     (first-unless (less-fails (f .rx .0) (2 ^ 48))
     (first-unless (most-fails 64 room) (nowhere refl))))))
 
+-- the lower of 2 and 4 whose condition holds
 pub write-lowest : (f : Fields) (room : ℕ) → Lowest (writeConditions f room) (writeRefusal f room)
 write-lowest f room = first-lowest 1 refl (write-order f room)

@@ -5,7 +5,7 @@ use Prim.Native.Nat.{ℕ}
 use Rattle.times.specs.declared.LocalTime.{LocalTime}
 use Rattle.times.specs.declared.GrandTime.{GrandTime}
 use Rattle.frame.specs.declared.Fields.{Fields}
-use Rattle.port.specs.Record.{silenced, tooOld, agedPort, usedPort}
+use Rattle.port.specs.Record.{tooOld, agedPort, usedPort}
 use Rattle.port.specs.Own.{ownReadingOf}
 use Rattle.port.specs.Receive.{receivedOf}
 use Rattle.port.specs.Leaves.{Noted, NotedClock, Used, Aged}

@@ -97,6 +97,7 @@ frame-order setting chosen f at port = first-if (λ (d : PortDone). d .answer) (
 
 -- ---- a reading of the own clock
 
+-- 8 by the frameCount
 pub reading-order : (count : ℕ) (grand : GrandTime) (now : LocalTime) (clock : OwnClock)
     → First (ownReadingOf count grand now clock .answer) (readingConditions (clock .preceding) count)
 unfolding ownReadingOf

@@ -19,6 +19,7 @@ use Rattle.refusals.proofs.Order.{first-lowest, same-number, less-fails, fails-
 
 -- ---- timestamps
 
+-- 2 where a condition holds, and else none
 pub export-lowest : (g : GrandTime) → Lowest (exportConditions g) (exportNo (exportOf g))
 unfolding exportOf
 export-lowest g =
@@ -56,6 +57,7 @@ module _ (A : Type 0) (asScale : Scaled → A) (number : A → ℕ) (same : (s :
   scale-lowest : (ptp : ℕ) (z : ℤ) → Lowest (scaleConditions ptp z) (number (asScale (scaledOf ptp z)))
   scale-lowest ptp z = first-lowest 1 refl (same-number (same (scaledOf ptp z)) (scaled-order ptp z))
 
+-- GPS = PTP - 315,964,819, UTC = PTP - leapSeconds, NTP = PTP + 2,208,988,800 - leapSeconds
 pub gps-lowest : (s : PtpSecond) → Lowest (scaleConditions (s .0) (pos (s .0) -ℤ pos 315964819)) (gpsNo (gpsOf s))
 unfolding gpsOf
 gps-lowest s = scale-lowest _ asGps gpsNo same (s .0) (pos (s .0) -ℤ pos 315964819)

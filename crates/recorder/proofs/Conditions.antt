@@ -45,6 +45,7 @@ chosen-order : (choice : Candidate) (samples : Samples) (latch : LocalTime) → 
 chosen-order Nothing samples latch = here _ _ refl refl
 chosen-order (Clock p h n) samples latch = later _ _ (λ (e : Clock p h n ≡ Nothing). let z : _≡_ {A = ℕ} 0 1 = cc in omega arith) (latch-order samples latch)
 
+-- the lowest of 2 and 10 to 13 whose condition holds
 pub stamp-lowest : (b : Bridge) (latch : ℕ) → Lowest (stampConditions b latch) (stampNo (stampOf b latch))
 unfolding stampOf
 stamp-lowest b latch = first-lowest 1 refl (first-else stampNo (less-fails latch (2 ^ 48)) (λ _. chosen-order (chosenOf b) (chosenSamples b) (latched latch)))

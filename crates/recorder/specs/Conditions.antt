@@ -8,7 +8,6 @@ use Rattle.times.specs.declared.LocalTime.{LocalTime}
 use Rattle.samples.specs.declared.Samples.{Samples}
 use Rattle.samples.specs.declared.Samples.the-variants.{Empty, One, Two}
 use Rattle.timeline.specs.Line.{readingAt}
-use Rattle.choice.specs.declared.Candidate.{Candidate}
 use Rattle.choice.specs.declared.Candidate.the-variants.{Nothing}
 use Rattle.port.specs.Order.{howMany}
 use Rattle.bridge.specs.Chosen.{chosenOf}

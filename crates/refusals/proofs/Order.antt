@@ -118,6 +118,7 @@ module _ {A : Type 0} (number : A → ℕ) where
 pub record Checks (k : ℕ) (t : Bool) (cs : List Condition) : Type 1 where
   pub order : First (cond t 0 k) cs
 
+-- of one part, and of one part more
 pub check : {k : ℕ} {t : Bool} {P : Type 0} → Fails t P → Checks k t (given k P ∷ [])
 check {k} d = record { order = first-else (λ (n : ℕ). n) d (λ _. nowhere refl) }
 
