@@ -31,7 +31,7 @@ use Rattle.bridge.specs.declared.Linked.{Linked}
 use Rattle.numbers.proofs.Branches.{if-when}
 use Rattle.port.proofs.PortLaws.{received-count, aged-count}
 use Rattle.bridge.proofs.StateLaws.{if-both}
-use Rattle.bridge.proofs.Records.{replaced, each-record, record-run}
+use Rattle.bridge.proofs.Records.{replaced, each-record, eight-ports, record-run}
 use Rattle.bridge.proofs.Sent.{wrote, wrote-count}
 
 -- ---- what each call leaves of the next frameCount
@@ -89,9 +89,11 @@ module _ (b : Bridge) (i n : ℕ) (h : i < length (b .ports)) (u : portAt (b .po
 -- the frameCount of every frame that is sent after any calls since Setup
 pub sent-count : (s : Setup) (cs : List Call) (port t : ℕ) (out : List ℕ)
     → let b = setupOf s .next in
-    port - 1 < mostPorts → sendOf (run b cs) port t (length out) .answer ≡ 0 → numberAt (sendBytes (run b cs) port t out) 30 1 ≡ used (port - 1) b cs 0 % 256
-sent-count s cs port t out h e =
+    sendOf (run b cs) port t (length out) .answer ≡ 0 → numberAt (sendBytes (run b cs) port t out) 30 1 ≡ used (port - 1) b cs 0 % 256
+sent-count s cs port t out e =
     let b = setupOf s .next in
     let i = port - 1 in
+    let w = wrote (run b cs) port t out e in
+    let h : i < mostPorts = omega (arith, w .ready .0 .low, w .ready .0 .high, eight-ports s cs) in
     let c = record-run i (usedBy i) (λ (n : ℕ) (p : Port). p .count ≡ n % 256) (λ b c n l u. after-count b i n l u c) s cs 0 h refl in
-    wrote-count (wrote (run b cs) port t out e) (omega (arith, c)) ∙ c
+    wrote-count w (omega (arith, c)) ∙ c

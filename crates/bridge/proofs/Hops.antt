@@ -1,5 +1,5 @@
 -- Hops rise: the held hop of a frame that is taken lies above the frame's and is at most the last, so every frame that is passed on
--- has a greater hop than the one that was heard.
+-- has a greater hop than the one that was heard; and one that is sent with the last hop is refused by the neighbour.
 use mathlib.Core.Path.{_≡_, refl, sym, ap, _∙_, subst}
 use mathlib.Core.Bool.{_&&_}
 use mathlib.Core.List.{List, []}
@@ -17,6 +17,7 @@ use Rattle.times.specs.declared.LocalTime.{LocalTime}
 use Rattle.choice.specs.Hop.{lastHop, hopOf}
 use Rattle.choice.specs.declared.Announcement.{Announcement}
 use Rattle.choice.specs.declared.Announcement.the-variants.{Silent, Announced}
+use Rattle.choice.specs.Precedence.{precedenceOf}
 use Rattle.choice.specs.declared.Precedence.{Precedence}
 use Rattle.choice.specs.declared.Candidate.{Candidate}
 use Rattle.choice.specs.declared.Candidate.the-variants.{Nothing, Clock}
@@ -26,7 +27,7 @@ use Rattle.frame.specs.declared.Fields.{Fields}
 use Rattle.frame.specs.declared.Reading.{Reading}
 use Rattle.frame.specs.declared.Reading.the-variants as Readings
 use Rattle.port.specs.Record.{emptyPort, agedPort}
-use Rattle.port.specs.Receive.{notedPort, receivedOf}
+use Rattle.port.specs.Receive.{receivedOf}
 use Rattle.port.specs.declared.Setting.{Setting}
 use Rattle.port.specs.declared.Port.{Port}
 use Rattle.port.specs.declared.PortDone.{PortDone}
@@ -34,7 +35,7 @@ use Rattle.choice.specs.Choose.{numberOf}
 use Rattle.bridge.specs.Table.{portAt, mostPorts, relinkedPort}
 use Rattle.bridge.specs.Arguments.{bit, portRefusal, sendRefusal, ownClockRefusal, maskBeyond}
 use Rattle.bridge.specs.declared.Setup.{Setup}
-use Rattle.bridge.specs.State.{TypedSetup, Lawful, withPort, answers, storesPort}
+use Rattle.bridge.specs.State.{TypedSetup, Lawful, withPort, storesPort}
 use Rattle.bridge.specs.Setup.{setupOf}
 use Rattle.bridge.specs.Links.{linksOf}
 use Rattle.bridge.specs.Own.{ownClockOf}
@@ -42,21 +43,21 @@ use Rattle.bridge.specs.Receive.{readBy, receiveFieldsOf, receiveOf}
 use Rattle.bridge.specs.Age.{ageOf}
 use Rattle.bridge.specs.Chosen.{chosenOf}
 use Rattle.bridge.specs.Send.{sendOf, sendBytes}
-use Rattle.bridge.specs.Demands.{Call, links, own-clock, receive, age, send, after, run, takenBy, lastTaken, hopAt, HeldAbove, PassedOn}
+use Rattle.bridge.specs.Demands.{Call, links, own-clock, receive, age, send, after, run, takenBy, lastTaken, hopAt, precedenceNumberAt, refusedLastHop, HeldAbove, PassedOn}
 use Rattle.bridge.specs.declared.Bridge.{Bridge}
 use Rattle.bridge.specs.declared.Done.{Done}
 use Rattle.bridge.specs.declared.Linked.{Linked}
 use Rattle.numbers.proofs.Branches.{if-when}
 use Rattle.choice.proofs.HopLaws.{hop-rises, hop-within}
 use Rattle.frame.proofs.FrameLaws.{read-number, framed}
-use Rattle.frame.proofs.Trip.{hop-number}
+use Rattle.frame.proofs.Trip.{precedence-number, hop-number}
 use Rattle.port.proofs.PortLaws.{aged-is, received-is, received-last-hop, read-in-range}
 use Rattle.bridge.proofs.CheckLaws.{Ready, port-ready}
 use Rattle.bridge.proofs.StateLaws.{receive-read, receive-stores, chosen-number}
 use Rattle.bridge.proofs.Refused.{receive-answers}
 use Rattle.bridge.proofs.Records.{replaced, each-record, eight-records, record-run}
 use Rattle.bridge.proofs.Keeps.{setup-lawful, run-lawful}
-use Rattle.bridge.proofs.Sent.{wrote, wrote-hop, sent-frame-read, sent-frame-received}
+use Rattle.bridge.proofs.Sent.{wrote, wrote-hop, sent-frame-read}
 use Rattle.bridge.proofs.Least.{chosen-announced}
 
 -- ---- a frame that is taken
@@ -131,27 +132,23 @@ taken-rises b port frame arrival h bytes e =
     let t = took b port frame arrival e in
     held-above t (omega (arith, t .ready .low, t .ready .high, h .setup-lawful .ports-most, h .records)) bytes
 
--- a frame with the last hop goes no farther: every station that reads it refuses it with 7
+-- a frame with the last hop goes no farther: every station that reads it, at a port with a link and a local time in range, refuses it with 7
 pub last-hop-refused : (b : Bridge) (port : ℕ) (frame : List ℕ) (arrival : ℕ) (f : Fields) → readOf frame ≡ Readings.Frame f → hopAt frame ≡ lastHop
-    → portRefusal (b .setup .n) (b .links) port arrival ≡ 0 → receiveOf b port frame arrival .answer ≡ lastHopHeard
-unfolding receiveFieldsOf
+    → portRefusal (b .setup .n) (b .links) port arrival ≡ 0 → receiveOf b port frame arrival ≡ refusedLastHop b port (f .count) arrival
 last-hop-refused b port frame arrival f read last clear =
-    ap (λ (d : Done). d .answer) (sym (receive-read b port frame arrival 0 (sym clear) (Readings.Frame f) refl (sym read)))
-    ∙ ap (λ (d : PortDone). d .answer) (sym (received-last-hop _ _ f (record { 0 = arrival }) _ (hop-number frame f read ∙ last)))
+    sym (receive-read b port frame arrival 0 (sym clear) (Readings.Frame f) refl (sym read))
+    ∙ sym (receive-stores b (port - 1) f (record { 0 = arrival }))
+    ∙ ap (storesPort b (port - 1)) (sym (received-last-hop _ _ f (record { 0 = arrival }) _ (hop-number frame f read ∙ last)))
 
--- Send here and Receive there: where Send answers 0 for a clock that is held at the last hop, the station to which its 64 bytes come, at a port with a
--- link and a local time in range, refuses them with 7, and stores their frameCount and arrival and nothing else
+-- Send here and Receive there: where Send answers 0 for a clock that is held at the last hop, the neighbour refuses these 64 bytes with 7
 pub sent-last-hop-refused : (b : Bridge) (port t : ℕ) (out : List ℕ) (there : Bridge) (at arrival : ℕ) {p : Precedence} {n : ℕ}
     → Lawful b → chosenOf b ≡ Clock p lastHop n → sendOf b port t (length out) .answer ≡ 0 → portRefusal (there .setup .n) (there .links) at arrival ≡ 0
-    → receiveOf there at (take frameLength (sendBytes b port t out)) arrival
-    ≡ answers lastHopHeard (withPort there (at - 1) (notedPort (portAt (b .ports) (port - 1) .count) (record { 0 = arrival }) (portAt (there .ports) (at - 1))))
+    → receiveOf there at (take frameLength (sendBytes b port t out)) arrival ≡ refusedLastHop there at (portAt (b .ports) (port - 1) .count) arrival
 sent-last-hop-refused b port t out there at arrival {p} {n} h c e clear =
     let r = sent-frame-read b port t out h e in
     let both : Clock (r .precedence) (r .hop) (r .number) ≡ Clock p lastHop n = sym (r .chosen) ∙ c in
     let last : r .hop ≡ lastHop = cc in
-    sent-frame-received b port t out h e there at arrival _ (r .read) clear
-    ∙ sym (receive-stores there (at - 1) _ (record { 0 = arrival }))
-    ∙ ap (storesPort there (at - 1)) (sym (received-last-hop _ _ _ (record { 0 = arrival }) _ last))
+    last-hop-refused there at (take frameLength (sendBytes b port t out)) arrival _ (r .read) (sym (hop-number _ _ (r .read)) ∙ last) clear
 
 -- ---- what each call leaves of an announcement
 
@@ -289,3 +286,16 @@ passed-on-refused s cs port t out there at arrival typed l before e clear =
     ap (λ (d : Done). d .answer)
     (sent-last-hop-refused b port t out there at arrival (run-lawful (setupOf s .next) cs (setup-lawful s typed))
     (p .chosen ∙ ap (λ (h : ℕ). Clock (p .fields .precedence) h (numberOf (chosenOf b))) last) e clear)
+
+-- and a frame that is passed on has the thirteen precedence bytes of the one that was heard
+pub passed-on-precedence : (s : Setup) (cs : List Call) (port t : ℕ) (out : List ℕ)
+    → let b = run (setupOf s .next) cs in
+    TypedSetup s → 0 < numberOf (chosenOf b) → sendOf b port t (length out) .answer ≡ 0
+    → precedenceNumberAt (take frameLength (sendBytes b port t out)) ≡ precedenceNumberAt (lastTaken (numberOf (chosenOf b) - 1) (setupOf s .next) cs)
+passed-on-precedence s cs port t out typed l e =
+    let b = run (setupOf s .next) cs in
+    let p = passed-on s cs port t out l e in
+    let r = sent-frame-read b port t out (run-lawful (setupOf s .next) cs (setup-lawful s typed)) e in
+    let both : Clock (r .precedence) (r .hop) (r .number) ≡ Clock (p .fields .precedence) (hopAt (sendBytes b port t out)) (numberOf (chosenOf b)) = sym (r .chosen) ∙ p .chosen in
+    let same : r .precedence ≡ p .fields .precedence = cc in
+    sym (precedence-number _ _ (r .read)) ∙ ap precedenceOf same ∙ precedence-number _ _ (p .read)

@@ -1,12 +1,11 @@
--- Lawful is kept: Setup hands back a lawful state whatever it answers, and so does every call on a lawful state.
+-- Lawful is kept: Setup hands back a lawful state whatever it answers, and so do every call on a lawful state and any calls in a row.
 use mathlib.Core.Path.{_≡_, refl, _∙_}
 use mathlib.Core.Bool.{_&&_}
 use mathlib.Core.List.{List, [], _∷_}
-use Prim.Native.Nat.{ℕ, zero, suc, _-_, _^_, _<_, _≤_}
-use native.Mathlib.Omega.{arith}
+use Prim.Native.Nat.{ℕ, _-_, _^_, _<_}
 use borrow.Author.Tests.{leb-true, leb-false, ltb-true, eqb-true}
 use lib.Dec.{leb, ltb, eqb, lit<, lit≤}
-use lib.ListN.{length, replicate, length-set}
+use lib.ListN.{length, length-set}
 use lib.Pow.{pow-pos}
 use Rattle.numbers.specs.Bytes.{Bytes}
 use Rattle.times.specs.Times.{circle, counts}
@@ -40,6 +39,7 @@ use Rattle.times.proofs.TestLaws.{both-hold}
 use Rattle.port.proofs.PortLaws.{empty-lawful, used-lawful, aged-lawful, received-lawful, own-reading-lawful, read-in-range}
 use Rattle.bridge.proofs.Walk.{each-length, each-all, set-all}
 use Rattle.bridge.proofs.CheckLaws.{port-ready, own-ready}
+use Rattle.bridge.proofs.Records.{fresh-record}
 
 abbrev pub Next : Done → Type 0
 Next d = Lawful (d .next)
@@ -72,18 +72,13 @@ each-kept f b mask h hl g =
 
 -- ---- setup
 
-empties : (n i : ℕ) → LawfulPort (portAt (replicate n emptyPort) i)
-empties zero i = empty-lawful
-empties (suc n) zero = empty-lawful
-empties (suc n) (suc i) = empties n i
-
 fresh-lawful : (s : Setup) → LawfulSetup s → Lawful (freshOf s)
 fresh-lawful s h = record {
   setup-lawful = h;
   links-most = pow-pos (s .n);
   clock-lawful = record { preceding = tt; samples = tt };
   records = refl;
-  ports-lawful = empties mostPorts;
+  ports-lawful = λ i. rw (fresh-record mostPorts i) empty-lawful;
 }
 
 -- the setup of no ports

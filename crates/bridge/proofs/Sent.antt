@@ -1,19 +1,20 @@
 -- What Send writes, Read reads: where Send answers 0, the first 64 bytes of the output are read as exactly the fields of the rules, and what a neighbour
 -- makes of them is what Receive makes of those fields. And what hopCount and frameCount are in them.
-use mathlib.Core.Path.{_≡_, sym, ap, _∙_, subst}
+use mathlib.Core.Path.{_≡_, refl, sym, ap, _∙_, subst}
 use mathlib.Core.List.{List}
+use mathlib.Core.Logic.{_⊎_, inl, inr}
 use Prim.Native.Nat.{ℕ, zero, suc, _-_, _<_, _≤_}
 use native.Mathlib.Omega.{arith}
 use borrow.Author.Tests.{eqb-true, eqb-false}
-use lib.Dec.{eqb, lit≤}
+use lib.Dec.{eqb, lit<}
 use lib.ListN.{length, take, drop}
 use Rattle.numbers.specs.Bytes.{numberAt}
 use Rattle.times.specs.Times.{counts}
-use Rattle.choice.specs.Hop.{lastHop}
-use Rattle.choice.specs.Rank.{PrecedenceFits}
+use Rattle.choice.specs.Rank.{PrecedenceFits, CandidateFits}
+use Rattle.choice.specs.Choose.{numberOf}
 use Rattle.choice.specs.declared.Precedence.{Precedence}
 use Rattle.choice.specs.declared.Candidate.{Candidate}
-use Rattle.choice.specs.declared.Candidate.the-variants.{Clock}
+use Rattle.choice.specs.declared.Candidate.the-variants.{Nothing, Clock}
 use Rattle.frame.specs.Frame.{frameLength}
 use Rattle.frame.specs.Read.{readOf}
 use Rattle.frame.specs.Write.{writeRefusal, bytesOf, writtenOf}
@@ -22,23 +23,24 @@ use Rattle.frame.specs.declared.Fields.{Fields}
 use Rattle.frame.specs.declared.Reading.the-variants as Readings
 use Rattle.port.specs.Lawful.{LawfulAnnouncement}
 use Rattle.port.specs.Send.{sendingBytes}
+use Rattle.port.specs.declared.PortDone.{PortDone}
 use Rattle.port.specs.declared.Sending.{Sending}
 use Rattle.port.specs.declared.Sending.the-variants.{Frame}
-use Rattle.bridge.specs.Table.{portAt}
+use Rattle.bridge.specs.Table.{portAt, mostPorts}
 use Rattle.bridge.specs.Arguments.{portRefusal, sendRefusal}
-use Rattle.bridge.specs.State.{Lawful}
+use Rattle.bridge.specs.State.{Lawful, storesPort}
 use Rattle.bridge.specs.Receive.{receiveFieldsOf, receiveOf}
 use Rattle.bridge.specs.Chosen.{chosenOf}
 use Rattle.bridge.specs.Send.{chosenSamples, sendingAt, sendOf, sendBytes}
-use Rattle.bridge.specs.Demands.{SentFields}
+use Rattle.bridge.specs.Demands.{From, SentFields}
 use Rattle.bridge.specs.declared.Bridge.{Bridge}
 use Rattle.bridge.specs.declared.Done.{Done}
 use Rattle.frame.proofs.FrameLaws.{filled}
 use Rattle.frame.proofs.Trip.{written-read, hop-byte, count-byte}
-use Rattle.port.proofs.PortLaws.{SentFor, sending-frame, sending-for, sending-written, sending-typed}
+use Rattle.port.proofs.PortLaws.{SentFor, sending-frame, sending-for, sending-written, sending-typed, received-is, announced-fits}
 use Rattle.bridge.proofs.CheckLaws.{Ready, send-ready}
 use Rattle.bridge.proofs.TableLaws.{chosen-lawful}
-use Rattle.bridge.proofs.StateLaws.{if-both, receive-read}
+use Rattle.bridge.proofs.StateLaws.{if-both, receive-read, chosen-number}
 use Rattle.bridge.proofs.Least.{chosen-own, chosen-announced}
 
 -- ---- a send that answers 0
@@ -82,7 +84,7 @@ module _ {b : Bridge} {port t : ℕ} {out left : List ℕ} (w : Wrote b port t o
       ap (λ (l : List ℕ). numberAt l 30 1) (w .bytes) ∙ count-byte (w .fields) (drop frameLength out) (subst (λ (n : ℕ). n < counts) same h) ∙ sym same
 
   -- byte 29 is the chosen clock's held hop
-  pub wrote-hop : {p : Precedence} {h n : ℕ} → chosenOf b ≡ Clock p h n → h ≤ lastHop → numberAt left 29 1 ≡ h
+  pub wrote-hop : {p : Precedence} {h n : ℕ} → chosenOf b ≡ Clock p h n → h < 256 → numberAt left 29 1 ≡ h
   wrote-hop {p} {h} {n} c l =
       let s = sent-at b (port - 1) t (w .fields) (w .sending) in
       let both : Clock (s .precedence) (s .hop) (s .number) ≡ Clock p h n = sym (s .chosen) ∙ c in
@@ -92,18 +94,19 @@ module _ {b : Bridge} {port t : ℕ} {out left : List ℕ} (w : Wrote b port t o
 
 -- ---- of a lawful state
 
--- the chosen clock's precedence has its bits, and its held hop is at most the last
-pub chosen-fits : (b : Bridge) {p : Precedence} {h n : ℕ} → Lawful b → chosenOf b ≡ Clock p h n → PrecedenceFits p × (h ≤ lastHop)
-chosen-fits b {p} {h} {n} lawful = by n
+-- each part of the chosen clock has its bits
+pub chosen-fits : (b : Bridge) → Lawful b → CandidateFits (chosenOf b)
+chosen-fits b h = by (chosenOf b) refl
   where
-    by : (n : ℕ) → chosenOf b ≡ Clock p h n → PrecedenceFits p × (h ≤ lastHop)
-    by zero e =
+    by : (c : Candidate) → chosenOf b ≡ c → CandidateFits c
+    by Nothing e = tt
+    by (Clock precedence hop zero) e =
         let own = chosen-own b e in
-        (subst PrecedenceFits (sym (own .0)) (lawful .setup-lawful .typed .own-fits), subst (λ (k : ℕ). k ≤ lastHop) (sym (own .1)) (lit≤ tt))
-    by (suc i) e =
+        (subst PrecedenceFits (sym (own .0)) (h .setup-lawful .typed .own-fits), omega (arith, own .1), lit< tt)
+    by (Clock precedence hop (suc i)) e =
         let announced = chosen-announced b e in
-        let l = subst LawfulAnnouncement (announced .1) (lawful .ports-lawful i .announcement) in
-        (l .0, l .1)
+        let number : suc i ≤ mostPorts = subst (λ (n : ℕ). n ≤ mostPorts) (ap numberOf e) (chosen-number b (h .records)) in
+        announced-fits precedence hop (suc i) (announced .0) (subst LawfulAnnouncement (announced .1) (h .ports-lawful i .announcement)) (omega (arith, number))
 
 module _ (b : Bridge) (port t : ℕ) (out : List ℕ) (lawful : Lawful b) (sent : sendOf b port t (length out) .answer ≡ 0) where
   -- byte 30 of a frame that was sent is the port's next frameCount
@@ -112,7 +115,7 @@ module _ (b : Bridge) (port t : ℕ) (out : List ℕ) (lawful : Lawful b) (sent 
 
   -- byte 29 is the chosen clock's held hop
   pub sent-frame-hop : {p : Precedence} {h n : ℕ} → chosenOf b ≡ Clock p h n → numberAt (sendBytes b port t out) 29 1 ≡ h
-  sent-frame-hop c = wrote-hop (wrote b port t out sent) c (chosen-fits b lawful c .1)
+  sent-frame-hop c = wrote-hop (wrote b port t out sent) c (subst CandidateFits c (chosen-fits b lawful) .1)
 
   -- a frame that was sent is one that Write takes
   pub sent-frame-written : (f : Fields) → sendingAt b (port - 1) (record { 0 = t }) ≡ Frame f → writeRefusal f (length out) ≡ 0
@@ -125,20 +128,21 @@ module _ (b : Bridge) (port t : ℕ) (out : List ℕ) (lawful : Lawful b) (sent 
   sent-typed : (f : Fields) → sendingAt b (port - 1) (record { 0 = t }) ≡ Frame f → Typed f
   unfolding sendingAt
   sent-typed f e =
-      let s = sending-for (chosenOf b) (chosenSamples b) (b .setup .sender) (record { 0 = t }) (portAt (b .ports) (port - 1)) f e in
-      let fits = chosen-fits b lawful (s .chosen) in
       sending-typed (chosenOf b) (chosenSamples b) (b .setup .sender) (record { 0 = t }) (portAt (b .ports) (port - 1)) f e
-      (lawful .setup-lawful .typed .address)
+      (lawful .setup-lawful .typed .address) (chosen-fits b lawful)
       (chosen-lawful (chosenOf b) (b .clock) (b .ports) (lawful .clock-lawful) (lawful .ports-lawful))
-      (lawful .ports-lawful (port - 1)) (fits .0) (fits .1)
+      (lawful .ports-lawful (port - 1))
 
   -- the first 64 bytes are read as the frame that was sent
-  sent-read : (f : Fields) → sendingAt b (port - 1) (record { 0 = t }) ≡ Frame f → bytesOf f (drop frameLength out) ≡ sendBytes b port t out
-      → readOf (take frameLength (sendBytes b port t out)) ≡ Readings.Frame f
-  sent-read f e bytes =
+  read-back : (f : Fields) → sendingAt b (port - 1) (record { 0 = t }) ≡ Frame f → readOf (take frameLength (sendBytes b port t out)) ≡ Readings.Frame f
+  read-back f e =
+      let w = wrote b port t out sent in
       let z = sent-frame-written f e in
-      let same : writtenOf f out ≡ sendBytes b port t out = sym (filled f 0 out (sym z) (λ i. 0)) ∙ bytes in
-      subst (λ (l : List ℕ). readOf (take frameLength l) ≡ Readings.Frame f) same (written-read f out (sent-typed f e) z)
+      let both : Frame (w .fields) ≡ Frame f = sym (w .sending) ∙ e in
+      let same : w .fields ≡ f = cc in
+      let bytes : writtenOf f out ≡ sendBytes b port t out
+      = sym (filled f 0 out (sym z) refl) ∙ ap (λ (g : Fields). bytesOf g (drop frameLength out)) (sym same) ∙ sym (w .bytes) in
+      subst (λ (l : List ℕ). readOf (take frameLength l) ≡ Readings.Frame f) bytes (written-read f out (sent-typed f e) z)
 
   -- WHAT SEND WRITES, READ READS: the first 64 bytes are read as exactly the fields of the rules
   pub sent-frame-read : SentFields b port t (take frameLength (sendBytes b port t out))
@@ -153,11 +157,21 @@ module _ (b : Bridge) (port t : ℕ) (out : List ℕ) (lawful : Lawful b) (sent 
         error = s .error;
         chosen = s .chosen;
         time = s .sent;
-        read = sent-read (w .fields) (w .sending) (sym (w .bytes)) ∙ ap Readings.Frame (sym (s .same));
+        read = read-back (w .fields) (w .sending) ∙ ap Readings.Frame (sym (s .same));
       }
 
-  -- and what a neighbour makes of them, at a port with a link and a local time in range, is what Receive makes of those fields
-  pub sent-frame-received : (there : Bridge) (at arrival : ℕ) (f : Fields) → readOf (take frameLength (sendBytes b port t out)) ≡ Readings.Frame f
+  -- and what a neighbour makes of them, at a port with a link and a local time in range, is what Receive makes of the fields that were sent
+  pub sent-frame-received : (there : Bridge) (at arrival : ℕ) (f : Fields) → sendingAt b (port - 1) (record { 0 = t }) ≡ Frame f
       → portRefusal (there .setup .n) (there .links) at arrival ≡ 0
       → receiveOf there at (take frameLength (sendBytes b port t out)) arrival ≡ receiveFieldsOf there (at - 1) f (record { 0 = arrival })
-  sent-frame-received there at arrival f read clear = sym (receive-read there at _ arrival 0 (sym clear) (Readings.Frame f) (λ i. 0) (sym read))
+  sent-frame-received there at arrival f e clear = sym (receive-read there at _ arrival 0 (sym clear) (Readings.Frame f) refl (sym (read-back f e)))
+
+  -- with 0, or with 7 to 9: a neighbour never refuses a sent frame by its bytes
+  pub sent-frame-answer : (there : Bridge) (at arrival : ℕ) → portRefusal (there .setup .n) (there .links) at arrival ≡ 0
+      → let k = receiveOf there at (take frameLength (sendBytes b port t out)) arrival .answer in (k ≡ 0) ⊎ From 7 9 k
+  unfolding receiveFieldsOf
+  sent-frame-answer there at arrival clear =
+      let Answer : Done → Type 0 = λ (d : Done). (d .answer ≡ 0) ⊎ From 7 9 (d .answer) in
+      let w = wrote b port t out sent in
+      subst Answer (sym (sent-frame-received there at arrival (w .fields) (w .sending) clear))
+      (received-is _ _ _ _ _ (λ (d : PortDone). Answer (storesPort there (at - 1) d)) (λ k l g. inr (l, g)) (λ _ _ _ _ _. inl refl))

@@ -10,6 +10,7 @@ use lib.Signed.{nonNeg}
 use lib.Ieee.{Float}
 use lib.Ieee.Exact.{HasValue}
 use Rattle.numbers.specs.Bytes.{numberAt, Bytes}
+use Rattle.refusals.specs.Refusals.{lastHopHeard}
 use Rattle.times.specs.Times.{counts, sinceOf}
 use Rattle.times.specs.declared.LocalTime.{LocalTime}
 use Rattle.times.specs.declared.GrandTime.{GrandTime}
@@ -31,6 +32,7 @@ use Rattle.choice.specs.declared.Announcement.the-variants.{Announced}
 use Rattle.choice.specs.declared.Candidate.{Candidate}
 use Rattle.choice.specs.declared.Candidate.the-variants.{Nothing, Clock}
 use Rattle.frame.specs.Read.{readOf, readNo}
+use Rattle.frame.specs.Better.{precedenceStart, precedenceBytes}
 use Rattle.frame.specs.declared.Fields.{Fields}
 use Rattle.frame.specs.declared.Reading.{Reading}
 use Rattle.frame.specs.declared.Reading.the-variants.{Frame}
@@ -40,7 +42,7 @@ use Rattle.port.specs.Send.{frameOf}
 use Rattle.port.specs.declared.Preceding.the-variants.{Was}
 use Rattle.bridge.specs.Table.{portAt, samplesAt, candidatesFrom}
 use Rattle.bridge.specs.Arguments.{bit, sendRefusal, maskBeyond}
-use Rattle.bridge.specs.State.{withPort, withClock}
+use Rattle.bridge.specs.State.{withPort, withClock, answers}
 use Rattle.bridge.specs.Setup.{noBridge}
 use Rattle.bridge.specs.Links.{linksOf, linkNo}
 use Rattle.bridge.specs.Own.{ownClockOf}
@@ -209,6 +211,14 @@ hopStart = 29
 
 abbrev pub hopAt : List ℕ → ℕ
 hopAt bytes = numberAt bytes hopStart 1
+
+-- the thirteen bytes of precedence, as the number of 104 bits that they make
+abbrev pub precedenceNumberAt : List ℕ → ℕ
+precedenceNumberAt bytes = numberAt bytes precedenceStart precedenceBytes
+
+-- a refusal with 7 at a port: of the frame its frameCount and arrival are stored, as the next p, and nothing else
+abbrev pub refusedLastHop : Bridge → ℕ → ℕ → ℕ → Done
+refusedLastHop b port count arrival = answers lastHopHeard (withPort b (port - 1) (notedPort count (record { 0 = arrival }) (portAt (b .ports) (port - 1))))
 
 -- what a port announces of a frame that it took: the frame's precedence, at a held hop above the frame's and at most the last
 pub record HeldAbove (frame : List ℕ) (announcement : Announcement) : Type 0 where

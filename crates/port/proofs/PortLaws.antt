@@ -25,8 +25,9 @@ use Rattle.timeline.specs.declared.Sent.the-variants.{At, Few, Late, Beyond}
 use Rattle.timeline.specs.Sent.{sentOf}
 use Rattle.delay.specs.declared.Delay.{Delay}
 use Rattle.delay.specs.declared.Delay.the-variants.{Is, TooLong}
-use Rattle.choice.specs.Rank.{PrecedenceFits}
+use Rattle.choice.specs.Rank.{PrecedenceFits, CandidateFits}
 use Rattle.choice.specs.declared.Precedence.{Precedence}
+use Rattle.choice.specs.declared.Announcement.the-variants.{Announced}
 use Rattle.choice.specs.declared.Candidate.{Candidate}
 use Rattle.choice.specs.declared.Candidate.the-variants.{Nothing, Clock}
 use Rattle.frame.specs.Frame.{frameLength, widths}
@@ -36,7 +37,7 @@ use Rattle.frame.specs.Demands.{Typed}
 use Rattle.frame.specs.declared.Reading.the-variants as Frames
 use Rattle.frame.specs.declared.Fields.{Fields}
 use Rattle.port.specs.Record.{silenced, tooOld, agedPort, emptyPort, usedPort}
-use Rattle.port.specs.Lawful.{LawfulPreceding, LawfulPair, LawfulPort, LawfulClock, LawfulMac, FieldsInRange}
+use Rattle.port.specs.Lawful.{LawfulPreceding, LawfulAnnouncement, LawfulPair, LawfulPort, LawfulClock, LawfulMac, FieldsInRange}
 use Rattle.port.specs.Own.{storedAs, ownSample, ownReadingBy, ownReadingOf}
 use Rattle.port.specs.Receive.{sampleOf, sameClock, takenPort, refusedBy, delayedBy, followedBy, countedBy, receivedOf}
 use Rattle.port.specs.Send.{echoTx, echoRx, frameOf, sendingBy, sendingOf, sendingNo, sendingDone}
@@ -243,9 +244,11 @@ module _ (choice : Candidate) (samples : Samples) (sender : Sender) (t : LocalTi
         echo-small (Set a b) q = q
 
     -- each of its other fields has its bits
-    pub sending-typed : LawfulMac (sender .mac) → LawfulSamples samples → LawfulPort port → PrecedenceFits (sending-for .precedence) → sending-for .hop ≤ lastHop → Typed f
-    sending-typed mac w l p h =
+    pub sending-typed : LawfulMac (sender .mac) → CandidateFits choice → LawfulSamples samples → LawfulPort port → Typed f
+    sending-typed mac fits w l =
         let s = sending-for in
+        let c = subst CandidateFits (s .chosen) fits in
+        let p = c .0 in
         let r = departure samples t (sender .back) (s .grand) (s .error) (s .sent) in
         let error : s .error .0 < 2 ^ 32 = subst (λ (x : ErrorTime). x .0 < 2 ^ 32) (sym (r .fault)) (ends-lawful samples (r .oldest) (r .newest) w (r .kept) .newest .error) in
         subst Typed (s .same)
@@ -261,7 +264,7 @@ module _ (choice : Candidate) (samples : Samples) (sender : Sender) (t : LocalTi
           variance = p .variance;
           priority2 = p .priority2;
           clock = p .clock;
-          hop = omega (arith, h);
+          hop = c .1;
           count = l .count;
           error = error;
         })
@@ -303,6 +306,13 @@ read-in-range s f b e =
 fields-precedence : (f : Fields) → Typed f → PrecedenceFits (f .precedence)
 fields-precedence f t = record { priority1 = t .priority1; source = t .source; variance = t .variance; priority2 = t .priority2; clock = t .clock }
 
+-- ---- what is announced
+
+-- a clock that is announced is a candidate whose parts have their bits
+pub announced-fits : (precedence : Precedence) (hop number : ℕ) (heardAt : LocalTime) → LawfulAnnouncement (Announced precedence hop heardAt) → number < 2 ^ 8
+    → CandidateFits (Clock precedence hop number)
+announced-fits precedence hop number heardAt l n = (l .0, omega (arith, l .1), n)
+
 -- ---- every step keeps a record lawful
 
 pub empty-lawful : LawfulPort emptyPort
@@ -331,7 +341,7 @@ received-lawful setting chosen f at port h r l =
     let arrived : LawfulPreceding (Was count p) = subst LawfulPreceding e (l .preceding) in
     record {
       preceding = (r .typed .count, h);
-      announcement = (fields-precedence f (r .typed), hop-within (f .hop) chosen (omega (arith, r .typed .hop, other)), h);
+      announcement = (fields-precedence f (r .typed), omega (arith, hop-within (f .hop) chosen (omega (arith, r .typed .hop, other))), h);
       samples =
           kept-lawful (port .samples) (sameClock (port .announcement) (f .precedence)) (sampleOf f p n) (l .samples)
           (record { grand = r .grand; local = since-lt p (record { 0 = n }); error = r .typed .error });

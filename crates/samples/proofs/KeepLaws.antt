@@ -1,10 +1,13 @@
 -- Laws of the samples that are kept: where the limits hold grand time rose, and what is kept is lawful.
 use mathlib.Core.Path.{_≡_, refl, ap}
 use mathlib.Core.Bool.{Bool, true, false}
-use Prim.Native.Nat.{ℕ, _+_, _<_, _≤_}
+use Prim.Native.Nat.{ℕ, _+_, _%_, _<_, _≤_}
 use native.Mathlib.Omega.{arith}
 use lib.IntN.{pos, natAbs, subℕ, _-ℤ_}
-use Rattle.times.specs.Times.{second}
+use mir.Syntax.{w32}
+use mir.Val.{ofZ}
+use mir.ValLaws.{ofZ-toZ}
+use Rattle.times.specs.Times.{circle, second, sinceOf, errorOf}
 use Rattle.samples.specs.Rate.{Limits, steepest}
 use Rattle.samples.specs.Keep.{spreadOf, riseOf, gainedOf, gainBetween, rateBetween, keptBy, keptOf, endsOf, LawfulSample, LawfulEnds, LawfulSamples}
 use Rattle.samples.specs.declared.Sample.{Sample}
@@ -56,6 +59,17 @@ kept-lawful old false new h k = k
 kept-lawful Empty true new h k = k
 kept-lawful (One a) true new h k = kept-by-lawful (gainBetween a new) a new refl h k
 kept-lawful (Two z a) true new h k = kept-by-lawful (gainBetween a new) a new refl (h .newest) k
+
+-- ---- the numbers of a lawful sample
+
+-- a later sample lies the spread after an earlier one, round the circle
+pub sample-onward : (a b : Sample) → LawfulSample b → (a .local .0 + spreadOf a b) % circle ≡ b .local .0
+unfolding sinceOf
+sample-onward a b h = omega (arith, h .local)
+
+-- the bits of its errorTime are those of the signed number
+pub sample-error : (a : Sample) → LawfulSample a → ofZ w32 (errorOf (a .error)) ≡ a .error .0
+sample-error a h = ofZ-toZ w32 (a .error .0) (record { fits = h .error })
 
 -- ---- the oldest and the newest
 
