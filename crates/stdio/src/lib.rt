@@ -74,10 +74,16 @@ fn closed(program: u8, s: Session, course: Course, out: &mut [u8]) -> Course
 fn tell(course: Course) {
     match course {
         Course::InputLost => {
-            io::write_all(STDERR_FILENO, b"input lost: standard input could not be read\n");
+            io::write_all(
+                STDERR_FILENO,
+                b"input lost: standard input could not be read\n",
+            );
         }
         Course::OutputLost => {
-            io::write_all(STDERR_FILENO, b"output lost: standard output could not be written\n");
+            io::write_all(
+                STDERR_FILENO,
+                b"output lost: standard output could not be written\n",
+            );
         }
         Course::On => {}
         Course::Ended => {}
