@@ -9,8 +9,9 @@ use Rattle.hex.specs.Character.{newline}
 use Rattle.bridge.specs.declared.Bridge.{Bridge}
 use Rattle.session_programs.specs.Programs.{startBy, answerBy}
 use Rattle.session.specs.declared.Session.{Session}
-use Rattle.session.specs.Lines.{keptBytes, Fed, saying, fedOf}
-use Rattle.session.specs.Session.{lineOf, Ready, Leaves}
+use Rattle.session.specs.declared.Progress.{Progress}
+use Rattle.session.specs.Lines.{part, Fed, saying, fedOf}
+use Rattle.session.specs.Session.{lineOf, Ready, Leaves, Turned}
 use Rattle.session.specs.Input.{restLines, linesAfter, textOf, restText, Piece, bytesOf, printedOf, sessionAfter, Reads, ReadAll}
 use Rattle.session.proofs.InputLaws.{kept-rest}
 use Rattle.session.proofs.TwoReads.{two-reads, ready-leaves}
@@ -39,6 +40,11 @@ fed-lines p (c ∷ s) line b = go (fed-lines p s [] (answerBy p b line .next)) (
         let f = fedOf p (answerBy p b line .next) [] s in
         append-assoc (answerBy p b line .text) (f .text) (restText p (f .next) (f .line)) ∙ ap (λ (x : List ℕ). answerBy p b line .text ++ x) ends
     go ends on false = on
+
+-- what a turn takes of the bytes is a piece, with the session that it leaves and what it prints
+pub turn-reads : (p : ℕ) (s : Session) (bytes : List ℕ) (from : ℕ) (r : Progress) (out : List ℕ) → Turned p s bytes from r out
+    → Reads p s (record { bytes = part bytes from (r .rest); after = r .session; text = take (r .filled) out })
+turn-reads p s bytes from r out w = record { leaves = w .leaves; prints = w .text }
 
 -- pieces after bytes that were read before leave and print what all of them do at once
 more-pieces : (p : ℕ) (b : Bridge) (line done t : List ℕ) (s : Session) (pieces : List Piece)

@@ -14,45 +14,51 @@ use Rattle.stdio.specs.declared.course.Course.{Course}
 use Rattle.stdio.specs.declared.course.Course.the-variants.{On, Ended, InputLost, OutputLost}
 use Rattle.stdio.specs.Course.{courseAfter, readsOn, onwardAfter}
 
--- what the machine reads of a number, and whether that is below another
-abbrev Below : ℤ → ℕ → Bool → Type 0
-Below got n e = ltZ (toZ w64 (ofZ w64 got)) (pos n) ≡ e
-
--- the same of the number itself
-below : (got : ℤ) (n : ℕ) (e : Bool) → SFits w64 got → Below got n e → ltZ got (pos n) ≡ e
-below got n e f t = subst (λ (z : ℤ). ltZ z (pos n) ≡ e) (back got f) t
-
 -- ---- after a read
 
+-- answers that were not written
 pub lost-output : (got : ℤ) (wrote : Bool) → not wrote ≡ true → OutputLost ≡ courseAfter got wrote
 lost-output got true e = absurd (true≢false (sym e))
 lost-output got false e = refl
 
-pub lost-input : (got : ℤ) (wrote : Bool) → SFits w64 got → not wrote ≡ false → Below got 0 true → InputLost ≡ courseAfter got wrote
-lost-input got wrote f e t = go got wrote e (below got 0 true f t)
-  where
-    go : (z : ℤ) (w : Bool) → not w ≡ false → ltZ z (pos 0) ≡ true → InputLost ≡ courseAfter z w
-    go z false e h = absurd (true≢false e)
-    go (pos n) true e h = absurd (true≢false (sym h ∙ le-ltb n 0 (omega arith)))
-    go (negsuc n) true e h = refl
+-- answers that were, and a number below zero, zero, and above it
+failed-read : (got : ℤ) → ltZ got (pos 0) ≡ true → InputLost ≡ courseAfter got true
+failed-read (pos n) h = absurd (true≢false (sym h ∙ le-ltb n 0 (omega arith)))
+failed-read (negsuc n) h = refl
 
-pub input-ended : (got : ℤ) (wrote : Bool) → SFits w64 got → not wrote ≡ false → Below got 0 false → Below got 1 true → Ended ≡ courseAfter got wrote
-input-ended got wrote f e t u = go got wrote e (below got 0 false f t) (below got 1 true f u)
-  where
-    go : (z : ℤ) (w : Bool) → not w ≡ false → ltZ z (pos 0) ≡ false → ltZ z (pos 1) ≡ true → Ended ≡ courseAfter z w
-    go z false e h k = absurd (true≢false e)
-    go (pos zero) true e h k = refl
-    go (pos (suc n)) true e h k = absurd (true≢false (sym k ∙ le-ltb (suc n) 1 (omega arith)))
-    go (negsuc n) true e h k = absurd (true≢false h)
+empty-read : (got : ℤ) → ltZ got (pos 0) ≡ false → ltZ got (pos 1) ≡ true → Ended ≡ courseAfter got true
+empty-read (pos zero) h k = refl
+empty-read (pos (suc n)) h k = absurd (true≢false (sym k ∙ le-ltb (suc n) 1 (omega arith)))
+empty-read (negsuc n) h k = absurd (true≢false h)
 
-pub input-on : (got : ℤ) (wrote : Bool) → SFits w64 got → not wrote ≡ false → Below got 0 false → Below got 1 false → On ≡ courseAfter got wrote
-input-on got wrote f e t u = go got wrote e (below got 0 false f t) (below got 1 false f u)
-  where
-    go : (z : ℤ) (w : Bool) → not w ≡ false → ltZ z (pos 0) ≡ false → ltZ z (pos 1) ≡ false → On ≡ courseAfter z w
-    go z false e h k = absurd (true≢false e)
-    go (pos zero) true e h k = absurd (true≢false k)
-    go (pos (suc n)) true e h k = refl
-    go (negsuc n) true e h k = absurd (true≢false h)
+some-read : (got : ℤ) → ltZ got (pos 0) ≡ false → ltZ got (pos 1) ≡ false → On ≡ courseAfter got true
+some-read (pos zero) h k = absurd (true≢false k)
+some-read (pos (suc n)) h k = refl
+some-read (negsuc n) h k = absurd (true≢false h)
+
+written : (wrote : Bool) → not wrote ≡ false → true ≡ wrote
+written true e = refl
+written false e = absurd (true≢false e)
+
+-- the same by the machine's tests, each of the number as it reads it
+module _ (got : ℤ) (wrote : Bool) (f : SFits w64 got) (e : not wrote ≡ false) where
+  abbrev Below : ℕ → Bool → Type 0
+  Below n held = ltZ (toZ w64 (ofZ w64 got)) (pos n) ≡ held
+
+  below : (n : ℕ) (held : Bool) → Below n held → ltZ got (pos n) ≡ held
+  below n held t = subst (λ (z : ℤ). ltZ z (pos n) ≡ held) (back got f) t
+
+  as-written : (course : Course) → course ≡ courseAfter got true → course ≡ courseAfter got wrote
+  as-written course h = h ∙ ap (courseAfter got) (written wrote e)
+
+  pub lost-input : Below 0 true → InputLost ≡ courseAfter got wrote
+  lost-input t = as-written InputLost (failed-read got (below 0 true t))
+
+  pub input-ended : Below 0 false → Below 1 true → Ended ≡ courseAfter got wrote
+  input-ended t u = as-written Ended (empty-read got (below 0 false t) (below 1 true u))
+
+  pub input-on : Below 0 false → Below 1 false → On ≡ courseAfter got wrote
+  input-on t u = as-written On (some-read got (below 0 false t) (below 1 false u))
 
 -- ---- within the bytes of a read
 

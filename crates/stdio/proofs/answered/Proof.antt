@@ -1,7 +1,7 @@
 -- Turn by turn, to the end of the bytes or to a lost output.
-use mathlib.Core.Path.{_≡_, refl, sym, ap, _∙_}
-use mathlib.Core.Bool.{Bool, true}
-use Prim.Native.Nat.{ℕ, _-_, _<_, _≤_}
+use mathlib.Core.Path.{_≡_, refl, sym, _∙_}
+use mathlib.Core.Bool.{true}
+use Prim.Native.Nat.{_-_, _<_, _≤_}
 use native.Mathlib.Omega.{arith}
 use borrow.Author.Needs.{needs}
 use lib.ListN.{length}
@@ -9,7 +9,6 @@ use lib.Seq.{length-take-le}
 use Rattle.session.specs.Lines.{part, fedOf}
 use Rattle.session.specs.Session.{lineOf, Ready, Leaves}
 use Rattle.session.proofs.TwoReads.{turns-none, turns-on, turns-all}
-use Rattle.stdio.specs.Course.{onwardAfter}
 use Rattle.stdio.proofs.CourseLaws.{onward-moves, onward-wrote, onward-rest}
 use Rattle.stdio.proofs.answered.Statement.{statement}
 use Rattle.stdio.proofs.answered.Tie as tie

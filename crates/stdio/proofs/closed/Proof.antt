@@ -1,5 +1,5 @@
 -- By the course: only the end of the input has something to answer.
-use mathlib.Core.Path.{_≡_, refl, sym, _∙_}
+use mathlib.Core.Path.{refl, sym}
 use mathlib.Core.Logic.{inl, inr}
 use borrow.Author.Needs.{needs}
 use lib.Seq.{length-take-le}

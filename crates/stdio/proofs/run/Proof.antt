@@ -1,5 +1,5 @@
--- Read by read: what is kept stays ready, and the buffers keep their length.
-use mathlib.Core.Path.{_≡_, refl, sym, _∙_}
+-- Read by read: what is kept stays ready, the buffers keep their length, and no read is counted beyond the last number.
+use mathlib.Core.Path.{_≡_, sym, _∙_}
 use mathlib.Core.Bool.{true≢false}
 use mathlib.Core.Logic.{⊎-elim}
 use Prim.Native.Nat.{_-_, _≤_}
