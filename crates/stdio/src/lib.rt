@@ -1,6 +1,4 @@
 // A program over standard input and output: lines to the end of the input, and their answers.
-pub mod course;
-
 ghost use mathlib.Core.Path.{_≡_};
 ghost use mathlib.Core.Bool.{true};
 ghost use mathlib.Core.Logic.{_⊎_};
@@ -9,13 +7,13 @@ ghost use lib.ListN.{length};
 ghost use Rattle.columns.specs.Columns.{longestAnswer};
 ghost use Rattle.session.specs.Lines.{fedOf};
 ghost use Rattle.session.specs.Session.{lineOf, Ready, Leaves};
-ghost use Rattle.stdio.specs.Course.{Stopped};
-ghost use Rattle.stdio.specs.declared.course.Course.the-variants.{OutputLost};
-use crate::course::Course;
+ghost use Rattle.stdio_course.specs.declared.Course.the-variants.{OutputLost};
+ghost use Rattle.stdio.specs.Run.{Stopped};
 use libc::STDERR_FILENO;
 use libc::STDIN_FILENO;
 use libc::STDOUT_FILENO;
 use session::Session;
+use stdio_course::Course;
 
 // What the answers to a read leave: the session, and whether all of them were written.
 struct Written {
@@ -44,7 +42,7 @@ fn answered(program: u8, s: Session, bytes: &[u8], out: &mut [u8]) -> Written
         let filled = turn.filled;
         wrote = io::write_all(STDOUT_FILENO, &out[..filled]);
         left = turn.session;
-        from = course::onward(wrote, turn.rest, bytes.len());
+        from = stdio_course::onward(wrote, turn.rest, bytes.len());
     }
     Written {
         session: left,
@@ -62,7 +60,7 @@ fn closed(program: u8, s: Session, course: Course, out: &mut [u8]) -> Course
         Course::Ended => {
             let filled = session::at_end(program, s, out);
             let wrote = io::write_all(STDOUT_FILENO, &out[..filled]);
-            course::after(0, wrote)
+            stdio_course::after(0, wrote)
         }
         Course::On => Course::On,
         Course::InputLost => Course::InputLost,
@@ -99,11 +97,11 @@ pub fn run(program: u8) -> Ending
     let mut output = io::large_buffer();
     let mut course = Course::On;
     let mut reads: u64 = 0;
-    while reads < u64::MAX && course::reads_on(course) {
+    while reads < u64::MAX && stdio_course::reads_on(course) {
         let got = libc::read(STDIN_FILENO, &mut input);
         let n = io::count(got, &input);
         let said = answered(program, s, &input[..n], &mut output);
-        course = course::after(got, said.whole);
+        course = stdio_course::after(got, said.whole);
         s = said.session;
         reads += 1;
     }

@@ -9,7 +9,7 @@ use lib.Seq.{length-take-le}
 use Rattle.session.specs.Lines.{part, fedOf}
 use Rattle.session.specs.Session.{lineOf, Ready, Leaves}
 use Rattle.session.proofs.TwoReads.{turns-none, turns-on, turns-all}
-use Rattle.stdio.proofs.CourseLaws.{onward-moves, onward-wrote, onward-rest}
+use Rattle.stdio_course.proofs.CourseLaws.{onward-moves, onward-wrote, onward-rest}
 use Rattle.stdio.proofs.answered.Statement.{statement}
 use Rattle.stdio.proofs.answered.Tie as tie
 

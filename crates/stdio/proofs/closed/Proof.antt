@@ -3,7 +3,7 @@ use mathlib.Core.Path.{refl, sym}
 use mathlib.Core.Logic.{inl, inr}
 use borrow.Author.Needs.{needs}
 use lib.Seq.{length-take-le}
-use Rattle.stdio.proofs.CourseLaws.{closes}
+use Rattle.stdio_course.proofs.CourseLaws.{closes}
 use Rattle.stdio.proofs.closed.Statement.{statement}
 use Rattle.stdio.proofs.closed.Tie as tie
 

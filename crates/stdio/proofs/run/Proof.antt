@@ -7,8 +7,8 @@ use native.Mathlib.Omega.{arith}
 use borrow.Author.Needs.{needs}
 use lib.ListN.{length}
 use Rattle.session.specs.Session.{Ready}
-use Rattle.stdio.specs.Course.{mostReads}
-use Rattle.stdio.proofs.CourseLaws.{still-on, on-reads}
+use Rattle.stdio.specs.Run.{mostReads}
+use Rattle.stdio_course.proofs.CourseLaws.{still-on, on-reads}
 use Rattle.stdio.proofs.run.Statement.{statement}
 use Rattle.stdio.proofs.run.Tie as tie
 

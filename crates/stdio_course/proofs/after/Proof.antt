@@ -1,7 +1,7 @@
 -- By whether the answers were written, and then by the sign of what the read answered.
-use Rattle.stdio.proofs.CourseLaws.{lost-output, lost-input, input-ended, input-on}
-use Rattle.stdio.proofs.course.after.Statement.{statement}
-use Rattle.stdio.proofs.course.after.Tie as tie
+use Rattle.stdio_course.proofs.CourseLaws.{lost-output, lost-input, input-ended, input-on}
+use Rattle.stdio_course.proofs.after.Statement.{statement}
+use Rattle.stdio_course.proofs.after.Tie as tie
 
 returns : tie.Need-returns
 returns c = lost-output (c .before .args .got) (c .before .args .wrote) (c .if1 .taken)

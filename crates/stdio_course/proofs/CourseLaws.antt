@@ -10,9 +10,9 @@ use lib.Signed.{ltZ}
 use mir.Syntax.{w64}
 use mir.Val.{SFits, toZ, ofZ}
 use Rattle.numbers.proofs.Machine.{back}
-use Rattle.stdio.specs.declared.course.Course.{Course}
-use Rattle.stdio.specs.declared.course.Course.the-variants.{On, Ended, InputLost, OutputLost}
-use Rattle.stdio.specs.Course.{courseAfter, readsOn, onwardAfter}
+use Rattle.stdio_course.specs.declared.Course.{Course}
+use Rattle.stdio_course.specs.declared.Course.the-variants.{On, Ended, InputLost, OutputLost}
+use Rattle.stdio_course.specs.Course.{courseAfter, readsOn, onwardAfter}
 
 -- ---- after a read
 

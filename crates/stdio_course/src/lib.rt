@@ -1,6 +1,6 @@
 // How a run goes on: what a read and a write answered decides it, and nothing else.
 ghost use mathlib.Core.Path.{_≡_};
-ghost use Rattle.stdio.specs.Course.{courseAfter, readsOn, onwardAfter};
+ghost use Rattle.stdio_course.specs.Course.{courseAfter, readsOn, onwardAfter};
 
 // The input goes on, or has ended; or a read failed, or a write did.
 pub enum Course {
