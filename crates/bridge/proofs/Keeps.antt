@@ -86,7 +86,7 @@ none-lawful : LawfulSetup noSetup
 unfolding delaysFit
 none-lawful = record {
   typed = record {
-    settings-most = refl;
+    settings-all = refl;
     address = record { byte0 = lit< tt; byte1 = lit< tt; byte2 = lit< tt; byte3 = lit< tt; byte4 = lit< tt; byte5 = lit< tt };
     own-fits = record { priority1 = lit< tt; source = lit< tt; variance = lit< tt; priority2 = lit< tt; clock = lit< tt };
   };

@@ -23,7 +23,7 @@ use Rattle.bridge.specs.declared.LinkCount.{LinkCount}
 
 -- what the types of a setup say, whatever Setup makes of it: eight settings, an address of six bytes, and an own precedence whose parts have their bits
 pub record TypedSetup (s : Setup) : Type 0 where
-  pub settings-most : length (s .settings) ≡ mostPorts
+  pub settings-all : length (s .settings) ≡ mostPorts
   pub address : LawfulMac (s .sender .mac)
   pub own-fits : PrecedenceFits (s .own)
 

@@ -23,7 +23,7 @@ eight c = sym (length-map (c .args .given .settings) _) ∙ c .good .0 .1 .1 .1 
 -- and what the types of the other fields say
 typed : (c : tie.Start) → TypedSetup (c .args .given)
 typed c = record {
-  settings-most = eight c;
+  settings-all = eight c;
   address = search needs;
   own-fits = search needs;
 }
