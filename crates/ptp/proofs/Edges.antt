@@ -1,4 +1,4 @@
--- Timestamps and scales at the edges: what the definitions give is what the request says, one claim for each table.
+-- Timestamps and scales at the edges: what the definitions give is what the request's rule does, one claim for each table.
 use mathlib.Core.Path.{refl}
 use Rattle.ptp.specs.Timestamp.{nanosecondOf, exportOf, fractionOf, importOf}
 use Rattle.ptp.specs.Scale.{scaledOf, gpsOf, utcOf, ntpOf}

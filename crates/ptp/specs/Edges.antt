@@ -1,4 +1,4 @@
--- Timestamps and scales at the edges: tables of cases, each with what the request says.
+-- Timestamps and scales at the edges: tables of cases that we chose, each with what the request's rules give.
 use mathlib.Core.Path.{_≡_}
 use mathlib.Core.List.{List, [], _∷_, map}
 use Prim.Native.Nat.{ℕ, _-_, _^_}
@@ -17,7 +17,7 @@ use Rattle.ptp.specs.declared.ToUtc.the-variants as Utc
 use Rattle.ptp.specs.declared.ToNtp.{ToNtp}
 use Rattle.ptp.specs.declared.ToNtp.the-variants as Ntp
 
--- what the definitions give, and what the request says
+-- what the definitions give, and what the request's rule does
 pub record Edge (A : Type 0) : Type 0 where
   pub got : A
   pub says : A

@@ -1,4 +1,4 @@
--- Stamps at the edges: what the definitions give is what the request says, one claim over the whole table.
+-- Stamps at the edges: what the definitions give is what the request's rule does, one claim over the whole table.
 use mathlib.Core.Path.{_≡_, refl}
 use mathlib.Core.List.{map}
 use Rattle.times.specs.Times.{sinceOf, momentOf}

@@ -1,4 +1,4 @@
--- Stamps at the edges: a table of cases, each with what the request says.
+-- Stamps at the edges: a table of cases that we chose, each with what the request's rule gives.
 use mathlib.Core.List.{List, [], _∷_}
 use Prim.Native.Nat.{ℕ, _+_, _-_, _*_, _^_}
 use Rattle.times.specs.Times.{circle, second, grandEnd, grandOf}
@@ -9,7 +9,7 @@ use Rattle.recorder.specs.Stamp.{latched, stampThrough}
 use Rattle.recorder.specs.declared.Stamped.{Stamped}
 use Rattle.recorder.specs.declared.Stamped.the-variants.{At, Refused}
 
--- what the definitions give, and what the request says
+-- what the definitions give, and what the request's rule does
 pub record Edge : Type 0 where
   pub got : Stamped
   pub says : Stamped
