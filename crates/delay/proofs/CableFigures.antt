@@ -8,7 +8,7 @@ use lib.IntN.{pos, natAbs, subℕ, _-ℤ_}
 use Rattle.times.specs.Times.{circle, aroundOf, sinceOf, earlierBy}
 use Rattle.samples.specs.Rate.{shortestSpread, perGain, parts}
 use Rattle.delay.specs.Delay.{longestTrip, longestDelay, delayOf}
-use Rattle.delay.specs.Cable.{Cable, Instant, Later, RoundTrip, latched, localTimeOf, arrivalOf, pairOf, localSpread, Rated, thatTxTimeOf, thatRxTimeOf, Told, tripOf, turnOf, rateBy, delayBy, twiceOff, CloserThan}
+use Rattle.delay.specs.Cable.{Cable, Instant, Later, RoundTrip, latchOf, localTimeOf, arrivalOf, pairOf, localSpread, Rated, thatTxTimeOf, thatRxTimeOf, Told, tripOf, turnOf, rateBy, delayBy, twiceOff, CloserThan}
 use Rattle.delay.specs.declared.DelaySetting.the-variants.{Measured}
 use Rattle.delay.specs.declared.Delay.the-variants.{Is}
 use Rattle.numbers.proofs.Ring.{same, minus-is, sub-neg-is, sub-lt, sub-ge2, natAbs-neg}
@@ -109,7 +109,7 @@ module _ (c : Cable) (i : Instant) (n : ℕ) (before : n * c .fine ≤ i .here +
   sampled = i .here + c .back - n * c .fine
 
   -- the sample's local time is what a latch here would have kept of it
-  pub sample-latched : earlierBy (arrivalOf c i) n ≡ latched c sampled
+  pub sample-latched : earlierBy (arrivalOf c i) n ≡ latchOf c sampled
   unfolding sinceOf
   sample-latched = λ i. record { 0 = around i }
     where

@@ -12,7 +12,7 @@ use Rattle.samples.specs.declared.Pair.{Pair}
 use Rattle.samples.specs.declared.Pair.the-variants.{Unset, Set}
 use Rattle.samples.specs.declared.Gain.{Gain}
 use Rattle.delay.specs.Delay.{longestTrip, delayOf}
-use Rattle.delay.specs.Cable.{Cable, Instant, Onward, Later, RoundTrip, latched, localTimeOf, arrivalOf, pairOf, localSpread, arrivalSpread, Rated, thatTxTimeOf, thatRxTimeOf, Told, tripOf, turnOf, rateBy, delayBy, NearCable, NearUnrated}
+use Rattle.delay.specs.Cable.{Cable, Instant, Onward, Later, RoundTrip, latchOf, localTimeOf, arrivalOf, pairOf, localSpread, arrivalSpread, Rated, thatTxTimeOf, thatRxTimeOf, Told, tripOf, turnOf, rateBy, delayBy, NearCable, NearUnrated}
 use Rattle.delay.specs.declared.DelaySetting.the-variants.{Measured}
 use Rattle.delay.specs.declared.Delay.the-variants.{Is}
 use Rattle.numbers.proofs.Floor.{floor-near}
@@ -35,7 +35,7 @@ module _ (c : Cable) (a b : ℕ) (on : Onward c a b) where
   abbrev k : ℕ
   k = c .fine
 
-  since-rests : k * sinceOf (latched c b) (latched c a) + b % k ≡ b - a + a % k
+  since-rests : k * sinceOf (latchOf c b) (latchOf c a) + b % k ≡ b - a + a % k
   unfolding sinceOf
   since-rests =
       let low : a / k < suc (b / k) = lt-of-mul-lt-mul-left k (omega (arith, div-add-mod a k, div-add-mod b k, mod-lt b (c .divided), on .after)) in
@@ -51,7 +51,7 @@ module _ (c : Cable) (a b : ℕ) (on : Onward c a b) where
 -- from an instant i to j, as the two clocks read it: the neighbour's at i and at j, ours at x and at y, between which d more passes than from i to j
 abbrev Read : Cable → Instant → Instant → ℕ → ℕ → ℕ → Type 0
 Read c i j d x y =
-    Stretch (c .theirs) (c .ours) (c .fine) d (sinceOf (latched c y) (latched c x)) (localSpread c i j)
+    Stretch (c .theirs) (c .ours) (c .fine) d (sinceOf (latchOf c y) (latchOf c x)) (localSpread c i j)
     (x % c .fine) (y % c .fine) (i .there % c .fine) (j .there % c .fine)
 
 stretch-read : (c : Cable) (i j : Instant) → Later c i j → (d x y : ℕ) → Onward c x y → y - x ≡ j .here - i .here + d → Read c i j d x y
@@ -60,7 +60,7 @@ stretch-read c i j later d x y on passed = record {
   ours1 = mod-lt y (c .divided);
   theirs0 = mod-lt (i .there) (c .divided);
   theirs1 = mod-lt (j .there) (c .divided);
-  balance = stretch-balance (c .theirs) (c .ours) (c .fine) _ _ d (sinceOf (latched c y) (latched c x)) (localSpread c i j) _ _ _ _ (later .rate)
+  balance = stretch-balance (c .theirs) (c .ours) (c .fine) _ _ d (sinceOf (latchOf c y) (latchOf c x)) (localSpread c i j) _ _ _ _ (later .rate)
       (since-rests c x y on ∙ ap (λ (z : ℕ). z + x % c .fine) passed)
       (since-rests c (i .there) (j .there) (later .there));
 }

@@ -52,15 +52,15 @@ pub record RoundTrip (c : Cable) : Type 0 where
 -- ---- the times that the rules have of it
 
 -- a latch keeps whole units, rounded down, on the circle of local time
-abbrev pub latched : Cable → ℕ → LocalTime
-latched c x = record { 0 = x / c .fine % circle }
+abbrev pub latchOf : Cable → ℕ → LocalTime
+latchOf c x = record { 0 = x / c .fine % circle }
 
 -- of a frame that left there at an instant: its localTime, and p, when it came in here; these two are the pair that is stored
 abbrev pub localTimeOf : Cable → Instant → LocalTime
-localTimeOf c i = latched c (i .there)
+localTimeOf c i = latchOf c (i .there)
 
 abbrev pub arrivalOf : Cable → Instant → LocalTime
-arrivalOf c i = latched c (i .here + c .back)
+arrivalOf c i = latchOf c (i .here + c .back)
 
 abbrev pub pairOf : Cable → Instant → Pair
 pairOf c i = Set (localTimeOf c i) (arrivalOf c i)
@@ -80,10 +80,10 @@ Rated c a b = Limits (pos (arrivalSpread c a b) -ℤ pos (localSpread c a b)) (l
 module _ (c : Cable) (r : RoundTrip c) where
   -- thatTxTime, when our frame left us, and thatRxTime, when it was heard there
   abbrev pub thatTxTimeOf : LocalTime
-  thatTxTimeOf = latched c (r .left)
+  thatTxTimeOf = latchOf c (r .left)
 
   abbrev pub thatRxTimeOf : LocalTime
-  thatRxTimeOf = latched c (r .heard .there)
+  thatRxTimeOf = latchOf c (r .heard .there)
 
   -- a frame can tell of it: the two are not both zero, which says that nothing was heard
   abbrev pub Told : Type 0

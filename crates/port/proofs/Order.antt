@@ -4,7 +4,7 @@ use mathlib.Core.Bool.{Bool, true, false, cond, _&&_}
 use mathlib.Core.List.{[], _∷_}
 use Prim.Native.Nat.{ℕ, _+_, _%_, _^_, _<_, _≤_}
 use native.Mathlib.Omega.{arith}
-use lib.Dec.{lit<, leb, eqb}
+use lib.Dec.{leb, eqb}
 use lib.IntN.{ℤ, pos, negsuc, natAbs}
 use borrow.Author.Tests.{ltb-true}
 use Rattle.refusals.specs.Order.{First, nowhere, here, later, given}
@@ -15,15 +15,16 @@ use Rattle.times.specs.declared.GrandTime.{GrandTime}
 use Rattle.times.specs.declared.ErrorTime.{ErrorTime}
 use Rattle.times.specs.declared.Moment.{Moment}
 use Rattle.samples.specs.Rate.{neighbourRateOf}
-use Rattle.samples.specs.Keep.{endsOf, LawfulSamples}
+use Rattle.samples.specs.Keep.{howMany, endsOf, LawfulSamples}
 use Rattle.samples.specs.declared.Samples.{Samples}
-use Rattle.samples.specs.declared.Samples.the-variants.{Empty, One, Two}
+use Rattle.samples.specs.declared.Ends.{Ends}
+use Rattle.samples.specs.declared.Ends.the-variants.{Few as TooFew, Both}
 use Rattle.delay.specs.Delay.{longestTrip, longestDelay, delayOf, measuredOf, linkDelayOf, delayNo}
 use Rattle.delay.specs.declared.DelaySetting.{DelaySetting}
 use Rattle.delay.specs.declared.DelaySetting.the-variants.{Measured, Fixed}
 use Rattle.delay.specs.declared.Delay.{Delay}
 use Rattle.delay.specs.declared.Delay.the-variants as Delays
-use Rattle.timeline.specs.Sent.{longestElapsed, sentTime, sentAs, sentOf, sentNo}
+use Rattle.timeline.specs.Sent.{longestElapsed, sentTime, sentAs, sentThrough, sentOf, sentNo}
 use Rattle.timeline.specs.declared.Sent.{Sent}
 use Rattle.timeline.specs.declared.Sent.the-variants.{At, Few, Late, Beyond}
 use Rattle.choice.specs.declared.Precedence.{Precedence}
@@ -33,7 +34,7 @@ use Rattle.frame.specs.declared.Fields.{Fields}
 use Rattle.port.specs.Own.{ownReadingBy, ownReadingOf}
 use Rattle.port.specs.Receive.{delayedBy, followedBy, countedBy, receivedOf}
 use Rattle.port.specs.Send.{sendingBy, sendingOf, sendingNo}
-use Rattle.port.specs.Order.{NotNext, TooLong, MeasuredTooLong, DelayTooLong, frameConditions, readingConditions, howMany, TooLate, BeyondEnd, departureConditions}
+use Rattle.port.specs.Order.{NotNext, TooLong, MeasuredTooLong, DelayTooLong, frameConditions, readingConditions, TooLate, BeyondEnd, departureConditions}
 use Rattle.port.specs.declared.Setting.{Setting}
 use Rattle.port.specs.declared.Sender.{Sender}
 use Rattle.port.specs.declared.Preceding.{Preceding}
@@ -43,7 +44,7 @@ use Rattle.port.specs.declared.OwnClock.{OwnClock}
 use Rattle.port.specs.declared.PortDone.{PortDone}
 use Rattle.port.specs.declared.ClockDone.{ClockDone}
 use Rattle.refusals.proofs.Order.{same-number, Tells, Fails, less-fails, most-fails, same-tells, same-fails, both-tell, either-fails, first-if, first-else}
-use Rattle.samples.proofs.KeepLaws.{ends-lawful}
+use Rattle.samples.proofs.KeepLaws.{few-ends, both-ends, ends-lawful}
 use Rattle.timeline.proofs.SentLaws.{sent-units}
 
 -- ---- a frame
@@ -117,15 +118,18 @@ moment-order (negsuc n) e s = absurd (omega (arith, ap natAbs s))
 
 -- 11, then 12, then 13
 sent-order : (samples : Samples) (t : LocalTime) (back : ℕ) → LawfulSamples samples → back < longestElapsed
-    → First (sentNo (sentOf samples t back)) (given 11 (howMany samples < 2) ∷ given 12 (TooLate samples t) ∷ given 13 (BeyondEnd samples t back) ∷ [])
-unfolding sentOf endsOf
-sent-order Empty t back w l = here _ _ (lit< tt) refl
-sent-order (One a) t back w l = here _ _ (lit< tt) refl
-sent-order (Two a b) t back w l =
-    later _ _ (λ (h : 2 < 2). omega arith)
-    (first-else sentNo (less-fails (sinceOf t (b .local)) (2 ^ 39))
-    (λ e. moment-order (sentTime a b (sinceOf t (b .local)) back) (b .error)
-    (sent-units a b (sinceOf t (b .local)) back (ltb-true _ _ e) l (ends-lawful (Two a b) a b w refl))))
+    → First (sentNo (sentOf samples t back)) (given 11 (howMany samples < 2) ∷ given 12 (TooLate (endsOf samples) t) ∷ given 13 (BeyondEnd (endsOf samples) t back) ∷ [])
+unfolding sentOf
+sent-order samples t back w l = by (endsOf samples) refl
+  where
+    by : (ends : Ends) → endsOf samples ≡ ends
+        → First (sentNo (sentThrough ends t back)) (given 11 (howMany samples < 2) ∷ given 12 (TooLate ends t) ∷ given 13 (BeyondEnd ends t back) ∷ [])
+    by TooFew q = here _ _ (few-ends samples q) refl
+    by (Both a b) q =
+        later _ _ (both-ends samples a b q)
+        (first-else sentNo (less-fails (sinceOf t (b .local)) (2 ^ 39))
+        (λ e. moment-order (sentTime a b (sinceOf t (b .local)) back) (b .error)
+        (sent-units a b (sinceOf t (b .local)) back (ltb-true _ _ e) l (ends-lawful samples a b w q))))
 
 -- the number of a departure for a chosen clock is that of its sent time
 sending-number : (s : Sent) (sender : Sender) (p : Precedence) (h : ℕ) (t : LocalTime) (port : Port) → sentNo s ≡ sendingNo (sendingBy s sender p h t port)

@@ -9,10 +9,10 @@ use Rattle.choice.specs.Choose.{chosenHop}
 use Rattle.choice.specs.declared.Candidate.the-variants.{Nothing}
 use Rattle.times.specs.declared.LocalTime.{LocalTime}
 use Rattle.samples.specs.Rate.{rateOf, scaledOf}
-use Rattle.samples.specs.Keep.{keptOf}
+use Rattle.samples.specs.Keep.{keptOf, howMany}
 use Rattle.samples.specs.declared.Sample.{Sample}
 use Rattle.samples.specs.declared.Samples.{Samples}
-use Rattle.samples.specs.declared.Samples.the-variants.{Empty, One, Two}
+use Rattle.samples.specs.declared.Samples.the-variants.{One}
 use Rattle.delay.specs.Delay.{delayOf}
 use Rattle.timeline.specs.Sent.{sentOf, sentNo}
 use Rattle.timeline.specs.declared.Sent.{Sent}
@@ -29,11 +29,11 @@ row g s = record { got = g; says = s }
 abbrev minus : ℕ → ℤ
 minus n = negℤ (pos n)
 
-abbrev local : ℕ → LocalTime
+abbrev pub local : ℕ → LocalTime
 local n = record { 0 = n }
 
 -- a sample of so many units of grand time and of local time
-abbrev sample : ℕ → ℕ → Sample
+abbrev pub sample : ℕ → ℕ → Sample
 sample g r = record { grand = grandOf g; local = local r; error = record { 0 = 0 } }
 
 -- what step 4 keeps of a sample, and of the next one of the same clock
@@ -46,9 +46,7 @@ gaining d s = kept (sample 0 0) (sample (s + d) s)
 
 -- how many samples are kept: two, or the new one alone
 abbrev many : Samples → ℤ
-many Empty = pos 0
-many (One a) = pos 1
-many (Two a b) = pos 2
+many samples = pos (howMany samples)
 
 -- the units of a sent time, or a refusal's number below zero
 abbrev sent : Sent → ℤ

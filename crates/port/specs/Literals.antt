@@ -6,11 +6,9 @@ use lib.IntN.{pos, negℤ}
 use Rattle.refusals.specs.Literals.{Literal, literal, tested}
 use Rattle.numbers.specs.Whole.{atLeastZero}
 use Rattle.times.specs.Times.{sinceOf, grandOf, momentOf, nextCount}
-use Rattle.times.specs.declared.LocalTime.{LocalTime}
 use Rattle.times.specs.declared.Moment.{Moment}
 use Rattle.times.specs.declared.Moment.the-variants as Moments
 use Rattle.samples.specs.Rate.{limitsHold, rateOf}
-use Rattle.samples.specs.declared.Sample.{Sample}
 use Rattle.samples.specs.declared.Samples.the-variants.{Empty, One, Two}
 use Rattle.delay.specs.Delay.{measuredOf, linkDelayOf, delayNo}
 use Rattle.delay.specs.declared.DelaySetting.{DelaySetting}
@@ -28,10 +26,8 @@ use Rattle.port.specs.Record.{emptyPort, emptyClock, tooOld}
 use Rattle.port.specs.Own.{ownReadingOf}
 use Rattle.port.specs.Receive.{notedPort, receivedOf}
 use Rattle.port.specs.Send.{sendingOf, sendingNo}
+use Rattle.port.specs.Edges.{local, sample}
 use Rattle.port.specs.declared.Port.{Port}
-
-abbrev at : ℕ → LocalTime
-at n = record { 0 = n }
 
 -- an address and a precedence of zeros
 abbrev address : Mac
@@ -50,7 +46,7 @@ found Moments.Beyond = 0
 abbrev times : List Literal
 times =
     -- a difference of local times is taken modulo 2^48
-    literal (sinceOf (at 0) (at 1)) (2 ^ 48 - 1)
+    literal (sinceOf (local 0) (local 1)) (2 ^ 48 - 1)
     -- grand time is one number below 2^80
     ∷ literal (found (momentOf (pos (2 ^ 80 - 1)))) 1
     ∷ literal (found (momentOf (pos (2 ^ 80)))) 0
@@ -67,7 +63,7 @@ measured trip turn = delayNo (measuredOf (pos 0) trip turn)
 
 -- a frame whose preceding one came in at 2^40, with these that-fields, by the refusal
 abbrev delayed : DelaySetting → ℕ → ℕ → ℕ
-delayed setting tx rx = delayNo (linkDelayOf setting (pos 0) (at 0) (at (2 ^ 40)) (at tx) (at rx))
+delayed setting tx rx = delayNo (linkDelayOf setting (pos 0) (local 0) (local (2 ^ 40)) (local tx) (local rx))
 
 -- a frame with this hopCount and frameCount, on a port that heard this frameCount last, or nothing, by the refusal
 abbrev frame : ℕ → ℕ → Fields
@@ -77,17 +73,17 @@ frame hop count = record {
   hop = hop;
   count = count;
   grand = grandOf 0;
-  local = at 0;
-  tx = at 0;
-  rx = at 0;
+  local = local 0;
+  tx = local 0;
+  rx = local 0;
   error = record { 0 = 0 };
 }
 
 abbrev received : Port → ℕ → ℕ → ℕ
-received port hop count = receivedOf (record { delay = Measured }) 255 (frame hop count) (at 0) port .answer
+received port hop count = receivedOf (record { delay = Measured }) 255 (frame hop count) (local 0) port .answer
 
 abbrev heard : ℕ → Port
-heard count = notedPort count (at 0) emptyPort
+heard count = notedPort count (local 0) emptyPort
 
 abbrev steps : List Literal
 steps =
@@ -128,30 +124,26 @@ steps =
     ∷ literal (received (heard 0) 254 0) 8
     ∷ literal (received (heard 0) 254 1) 0
     -- and so for the own clock's first reading
-    ∷ literal (ownReadingOf 0 (grandOf 0) (at 0) emptyClock .answer) 8
+    ∷ literal (ownReadingOf 0 (grandOf 0) (local 0) emptyClock .answer) 8
     ∷ []
 
 -- ---- Age, Send and Drift
 
--- a sample of so many units of grand time and of local time
-abbrev sample : ℕ → ℕ → Sample
-sample grand local = record { grand = grandOf grand; local = at local; error = record { 0 = 0 } }
-
 -- two samples 2^34 apart, the newer at this grand time and at the local time 2^34; a departure so long after it, by the refusal
 abbrev departs : ℕ → ℕ → ℕ
-departs newer elapsed = sentNo (sentOf (Two (sample (newer - 2 ^ 34) 0) (sample newer (2 ^ 34))) (at (2 ^ 34 + elapsed)) 0)
+departs newer elapsed = sentNo (sentOf (Two (sample (newer - 2 ^ 34) 0) (sample newer (2 ^ 34))) (local (2 ^ 34 + elapsed)) 0)
 
 abbrev sends : List Literal
 sends =
     -- now - heard-at >= timeout
-    literal (tested (tooOld (Announced precedence 0 (at 0)) (at (2 ^ 39 - 1)) (2 ^ 39))) 0
-    ∷ literal (tested (tooOld (Announced precedence 0 (at 0)) (at (2 ^ 39)) (2 ^ 39))) 1
+    literal (tested (tooOld (Announced precedence 0 (local 0)) (local (2 ^ 39 - 1)) (2 ^ 39))) 0
+    ∷ literal (tested (tooOld (Announced precedence 0 (local 0)) (local (2 ^ 39)) (2 ^ 39))) 1
     -- the first frameCount is 0
     ∷ literal (emptyPort .count) 0
     -- no clock chosen; fewer than two samples
-    ∷ literal (sendingNo (sendingOf Nothing Empty (record { mac = address; back = 0 }) (at 0) emptyPort)) 10
-    ∷ literal (sentNo (sentOf Empty (at 0) 0)) 11
-    ∷ literal (sentNo (sentOf (One (sample 0 0)) (at 0) 0)) 11
+    ∷ literal (sendingNo (sendingOf Nothing Empty (record { mac = address; back = 0 }) (local 0) emptyPort)) 10
+    ∷ literal (sentNo (sentOf Empty (local 0) 0)) 11
+    ∷ literal (sentNo (sentOf (One (sample 0 0)) (local 0) 0)) 11
     -- departure minus newer sample below 2^39, sent grand time below 2^80
     ∷ literal (departs (2 ^ 40) (2 ^ 39 - 1)) 0
     ∷ literal (departs (2 ^ 40) (2 ^ 39)) 12

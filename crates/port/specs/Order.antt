@@ -9,8 +9,10 @@ use Rattle.numbers.specs.Whole.{atLeastZero}
 use Rattle.times.specs.Times.{sinceOf}
 use Rattle.times.specs.declared.LocalTime.{LocalTime}
 use Rattle.samples.specs.Rate.{neighbourRateOf}
+use Rattle.samples.specs.Keep.{howMany, endsOf}
 use Rattle.samples.specs.declared.Samples.{Samples}
-use Rattle.samples.specs.declared.Samples.the-variants.{Empty, One, Two}
+use Rattle.samples.specs.declared.Ends.{Ends}
+use Rattle.samples.specs.declared.Ends.the-variants.{Few, Both}
 use Rattle.samples.specs.declared.Pair.{Pair}
 use Rattle.delay.specs.Delay.{delayOf}
 use Rattle.delay.specs.declared.DelaySetting.{DelaySetting}
@@ -56,29 +58,21 @@ readingConditions preceding count = given 8 (NotNext preceding count) ∷ []
 
 -- ---- Send
 
--- how many samples there are
-abbrev pub howMany : Samples → ℕ
-howMany Empty = 0
-howMany (One a) = 1
-howMany (Two a b) = 2
-
 -- departure minus newer sample is 2^39 or more
-abbrev pub TooLate : Samples → LocalTime → Type 0
-TooLate Empty t = ⊥
-TooLate (One a) t = ⊥
-TooLate (Two a b) t = 2 ^ 39 ≤ sinceOf t (b .local)
+abbrev pub TooLate : Ends → LocalTime → Type 0
+TooLate Few t = ⊥
+TooLate (Both a b) t = 2 ^ 39 ≤ sinceOf t (b .local)
 
 -- the sent grand time would reach 2^80
-abbrev pub BeyondEnd : Samples → LocalTime → ℕ → Type 0
-BeyondEnd Empty t back = ⊥
-BeyondEnd (One a) t back = ⊥
-BeyondEnd (Two a b) t back = 2 ^ 80 ≤ atLeastZero (sentTime a b (sinceOf t (b .local)) back)
+abbrev pub BeyondEnd : Ends → LocalTime → ℕ → Type 0
+BeyondEnd Few t back = ⊥
+BeyondEnd (Both a b) t back = 2 ^ 80 ≤ atLeastZero (sentTime a b (sinceOf t (b .local)) back)
 
 -- a departure at t, by the chosen clock and its samples
 abbrev pub departureConditions : Candidate → Samples → LocalTime → ℕ → List Condition
 departureConditions chosen samples t back =
     given 10 (chosen ≡ Nothing)
     ∷ given 11 (howMany samples < 2)
-    ∷ given 12 (TooLate samples t)
-    ∷ given 13 (BeyondEnd samples t back)
+    ∷ given 12 (TooLate (endsOf samples) t)
+    ∷ given 13 (BeyondEnd (endsOf samples) t back)
     ∷ []

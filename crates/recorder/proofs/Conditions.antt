@@ -3,15 +3,15 @@ use mathlib.Core.Path.{_≡_, refl, ap}
 use mathlib.Core.List.{[], _∷_}
 use Prim.Native.Nat.{ℕ, _^_, _<_, _≤_}
 use native.Mathlib.Omega.{arith}
-use lib.Dec.{lit<}
 use lib.IntN.{ℤ, pos, negsuc, natAbs}
 use Rattle.refusals.specs.Order.{given, Lowest, First, nowhere, here, later}
 use Rattle.times.specs.Times.{momentOf}
 use Rattle.times.specs.declared.LocalTime.{LocalTime}
 use Rattle.times.specs.declared.Moment.{Moment}
-use Rattle.samples.specs.Keep.{endsOf}
+use Rattle.samples.specs.Keep.{howMany, endsOf}
 use Rattle.samples.specs.declared.Samples.{Samples}
-use Rattle.samples.specs.declared.Samples.the-variants.{Empty, One, Two}
+use Rattle.samples.specs.declared.Ends.{Ends}
+use Rattle.samples.specs.declared.Ends.the-variants.{Few, Both}
 use Rattle.timeline.specs.Line.{readingAt}
 use Rattle.choice.specs.declared.Candidate.{Candidate}
 use Rattle.choice.specs.declared.Candidate.the-variants.{Nothing, Clock}
@@ -19,7 +19,8 @@ use Rattle.bridge.specs.Chosen.{chosenOf}
 use Rattle.bridge.specs.Send.{chosenSamples}
 use Rattle.bridge.specs.declared.Bridge.{Bridge}
 use Rattle.recorder.specs.Stamp.{latched, distanceOf, stampAs, stampThrough, stampBy, stampOf, stampNo}
-use Rattle.recorder.specs.Conditions.{latchConditions, stampConditions}
+use Rattle.recorder.specs.Conditions.{TooFar, NoGrandTime, latchConditions, stampConditions}
+use Rattle.samples.proofs.KeepLaws.{few-ends, both-ends}
 use Rattle.refusals.proofs.Order.{first-lowest, less-fails, most-fails, fails-same, first-else}
 
 -- 13 by the line at the latch
@@ -33,12 +34,14 @@ reading-order (negsuc m) =
 
 -- 11, then 12, then 13
 latch-order : (samples : Samples) (latch : LocalTime) → First (stampNo (stampThrough (endsOf samples) latch)) (latchConditions samples latch)
-unfolding endsOf
-latch-order Empty latch = here _ _ (lit< tt) refl
-latch-order (One a) latch = here _ _ (lit< tt) refl
-latch-order (Two a b) latch =
-    later _ _ (λ (h : 2 < 2). omega arith)
-    (first-else stampNo (most-fails (natAbs (distanceOf latch (b .local))) (2 ^ 39)) (λ _. reading-order (readingAt a b (distanceOf latch (b .local)))))
+latch-order samples latch = by (endsOf samples) refl
+  where
+    by : (ends : Ends) → endsOf samples ≡ ends
+        → First (stampNo (stampThrough ends latch)) (given 11 (howMany samples < 2) ∷ given 12 (TooFar ends latch) ∷ given 13 (NoGrandTime ends latch) ∷ [])
+    by Few q = here _ _ (few-ends samples q) refl
+    by (Both a b) q =
+        later _ _ (both-ends samples a b q)
+        (first-else stampNo (most-fails (natAbs (distanceOf latch (b .local))) (2 ^ 39)) (λ _. reading-order (readingAt a b (distanceOf latch (b .local)))))
 
 -- 10, then these
 chosen-order : (choice : Candidate) (samples : Samples) (latch : LocalTime) → First (stampNo (stampBy choice samples latch)) (given 10 (choice ≡ Nothing) ∷ latchConditions samples latch)

@@ -3,17 +3,18 @@ use mathlib.Core.Path.{_≡_, refl, ap}
 use mathlib.Core.Bool.{Bool, true, false}
 use Prim.Native.Nat.{ℕ, _+_, _%_, _<_, _≤_}
 use native.Mathlib.Omega.{arith}
+use lib.Dec.{lit<}
 use lib.IntN.{pos, natAbs, subℕ, _-ℤ_}
 use mir.Syntax.{w32}
 use mir.Val.{ofZ}
 use mir.ValLaws.{ofZ-toZ}
 use Rattle.times.specs.Times.{circle, second, sinceOf, errorOf}
 use Rattle.samples.specs.Rate.{Limits, steepest}
-use Rattle.samples.specs.Keep.{spreadOf, riseOf, gainedOf, gainBetween, rateBetween, keptBy, keptOf, endsOf, LawfulSample, LawfulEnds, LawfulSamples}
+use Rattle.samples.specs.Keep.{spreadOf, riseOf, gainedOf, gainBetween, rateBetween, keptBy, keptOf, howMany, endsOf, LawfulSample, LawfulEnds, LawfulSamples}
 use Rattle.samples.specs.declared.Sample.{Sample}
 use Rattle.samples.specs.declared.Samples.{Samples}
 use Rattle.samples.specs.declared.Samples.the-variants.{Empty, One, Two}
-use Rattle.samples.specs.declared.Ends.the-variants.{Both}
+use Rattle.samples.specs.declared.Ends.the-variants.{Few, Both}
 use Rattle.samples.specs.declared.Gain.{Gain}
 use Rattle.samples.specs.declared.Gain.the-variants.{Within, Outside}
 use Rattle.numbers.proofs.Ring.{minus-is, neg-pos, sub-+, sub-ge, sub-ge2}
@@ -45,6 +46,19 @@ module _ (old : Samples) (same : Bool) (new : Sample) where
   pub kept-two : (z a : Sample) → same ≡ true → old ≡ Two z a → keptBy (gainBetween a new) a new ≡ keptOf old same new
   unfolding keptOf
   kept-two z a e o = rw (e, o)
+
+-- a line has no ends exactly where there are fewer than two samples
+pub few-ends : (samples : Samples) → endsOf samples ≡ Few → howMany samples < 2
+unfolding endsOf
+few-ends Empty q = lit< tt
+few-ends (One a) q = lit< tt
+few-ends (Two a b) q = let clash : _≡_ {A = ℕ} 0 1 = cc in absurd (omega arith)
+
+pub both-ends : (samples : Samples) (a b : Sample) → endsOf samples ≡ Both a b → howMany samples < 2 → ⊥
+unfolding endsOf
+both-ends Empty a b q h = let clash : _≡_ {A = ℕ} 0 1 = cc in omega arith
+both-ends (One x) a b q h = let clash : _≡_ {A = ℕ} 0 1 = cc in omega arith
+both-ends (Two x y) a b q h = omega (arith, h)
 
 -- what is kept is lawful again
 kept-by-lawful : (gain : Gain) (a new : Sample) → gain ≡ gainBetween a new → LawfulSample a → LawfulSample new → LawfulSamples (keptBy gain a new)

@@ -42,6 +42,12 @@ keptOf Empty true new = One new
 keptOf (One a) true new = keptBy (gainBetween a new) a new
 keptOf (Two z a) true new = keptBy (gainBetween a new) a new
 
+-- how many samples there are
+abbrev pub howMany : Samples → ℕ
+howMany Empty = 0
+howMany (One a) = 1
+howMany (Two a b) = 2
+
 -- too few samples to read a line off, or the oldest and the newest that are kept
 unfoldable pub endsOf : Samples → Ends
 endsOf Empty = Few

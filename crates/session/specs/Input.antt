@@ -24,9 +24,9 @@ linesAfter line [] = restLines line
 linesAfter line (c ∷ s) = cond (eqb c newline) (line ∷ linesAfter [] s) (linesAfter (line ++ (c ∷ [])) s)
 
 -- what lines print, each in the state that the one before it leaves
-unfoldable pub textOf : ℕ → Bridge → List (List ℕ) → List ℕ
-textOf p b [] = []
-textOf p b (line ∷ lines) = answerBy p b line .text ++ textOf p (answerBy p b line .next) lines
+unfoldable pub linesText : ℕ → Bridge → List (List ℕ) → List ℕ
+linesText p b [] = []
+linesText p b (line ∷ lines) = answerBy p b line .text ++ linesText p (answerBy p b line .next) lines
 
 -- ---- as it is read
 
@@ -42,9 +42,9 @@ pub record Piece : Type 0 where
   pub text : List ℕ
 
 -- the bytes of all the pieces
-abbrev pub bytesOf : List Piece → List ℕ
-bytesOf [] = []
-bytesOf (piece ∷ pieces) = piece .bytes ++ bytesOf pieces
+abbrev pub inputOf : List Piece → List ℕ
+inputOf [] = []
+inputOf (piece ∷ pieces) = piece .bytes ++ inputOf pieces
 
 -- what they print
 abbrev pub printedOf : List Piece → List ℕ
