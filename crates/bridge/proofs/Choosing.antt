@@ -2,12 +2,12 @@
 use mathlib.Core.Path.{_≡_, refl, sym, _∙_, subst}
 use Prim.Native.Nat.{ℕ, _+_, _<_}
 use lib.ListN.{length, drop}
-use Rattle.choice.specs.Choose.{candidateOf, ownCandidate, betterOf}
+use Rattle.choice.specs.Choose.{candidateOf, ownCandidate, betterOf, bestOf}
 use Rattle.choice.specs.Rank.{inNumbers, CandidateFits, Ranks, lesserOf}
 use Rattle.choice.specs.declared.Candidate.{Candidate}
 use Rattle.choice.specs.declared.Rank.{Rank}
 use Rattle.port.specs.Record.{emptyPort}
-use Rattle.bridge.specs.Table.{portAt, candidatesFrom, bestOf}
+use Rattle.bridge.specs.Table.{portAt, candidatesFrom}
 use Rattle.bridge.specs.Chosen.{chosenOf}
 use Rattle.bridge.specs.declared.Bridge.{Bridge}
 use Rattle.choice.proofs.RankLaws.{better-rank}

@@ -25,6 +25,7 @@ use Rattle.bridge.specs.Receive.{readBy, receiveFieldsOf, receiveOf}
 use Rattle.bridge.specs.Age.{ageOf}
 use Rattle.bridge.specs.Send.{sendOf, sendBytes}
 use Rattle.bridge.specs.Demands.{Call, links, own-clock, receive, age, send, after, run, usedBy, used}
+use Rattle.bridge.specs.Chosen.{chosenOf}
 use Rattle.bridge.specs.declared.Bridge.{Bridge}
 use Rattle.bridge.specs.declared.Done.{Done}
 use Rattle.bridge.specs.declared.Linked.{Linked}
@@ -53,7 +54,7 @@ module _ (b : Bridge) (i n : ℕ) (h : i < length (b .ports)) (u : portAt (b .po
   receive-count port frame arrival =
       if-when (λ (d : Done). portAt (d .next .ports) i .count ≡ n % 256) (eqb (portRefusal (b .setup .n) (b .links) port arrival) 0) (λ _. by (readOf frame)) (λ _. u)
     where
-      by : (r : Reading) → portAt (readBy b (port - 1) r (record { 0 = arrival }) .next .ports) i .count ≡ n % 256
+      by : (r : Reading) → portAt (readBy (chosenOf b) b (port - 1) r (record { 0 = arrival }) .next .ports) i .count ≡ n % 256
       by (Readings.Refused k) = u
       by (Readings.Frame f) = replaced countOf (b .ports) (port - 1) _ (received-count _ _ f _ (portAt (b .ports) (port - 1))) i ∙ u
 

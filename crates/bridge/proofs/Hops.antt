@@ -99,8 +99,8 @@ took b port frame arrival =
     (λ q. by (readOf frame) refl (port-ready (b .setup .n) (b .links) port arrival (eqb-true _ _ q)))
     (λ q z. absurd (eqb-false _ _ q z))
   where
-    by : (r : Reading) → readOf frame ≡ r → Ready (b .setup .n) port arrival → readBy b (port - 1) r (record { 0 = arrival }) .answer ≡ 0
-        → Took b port frame arrival (readBy b (port - 1) r (record { 0 = arrival }) .next)
+    by : (r : Reading) → readOf frame ≡ r → Ready (b .setup .n) port arrival → readBy (chosenOf b) b (port - 1) r (record { 0 = arrival }) .answer ≡ 0
+        → Took b port frame arrival (readBy (chosenOf b) b (port - 1) r (record { 0 = arrival }) .next)
     by (Readings.Refused k) q h z = absurd (refused-by-bytes frame k q z)
     by (Readings.Frame f) q h z = record { fields = f; read = q; ready = h; stored = _; held = holds _ _ f (record { 0 = arrival }) _ z; state = refl }
 

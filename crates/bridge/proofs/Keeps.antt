@@ -31,6 +31,7 @@ use Rattle.bridge.specs.Receive.{receiveFieldsOf, readBy, receiveOf}
 use Rattle.bridge.specs.Age.{ageOf}
 use Rattle.bridge.specs.Send.{sendOf}
 use Rattle.bridge.specs.Demands.{Call, links, own-clock, receive, age, send, after, run}
+use Rattle.bridge.specs.Chosen.{chosenOf}
 use Rattle.bridge.specs.declared.Bridge.{Bridge}
 use Rattle.bridge.specs.declared.Done.{Done}
 use Rattle.bridge.specs.declared.Linked.{Linked}
@@ -129,7 +130,7 @@ own-lawful b count seconds fraction at byte h =
     refl (h .ports-lawful))
     (λ _. h)
 
-heard-lawful : (b : Bridge) (i : ℕ) (f : Fields) (at : LocalTime) → Lawful b → at .0 < circle → FieldsInRange f → Lawful (receiveFieldsOf b i f at .next)
+heard-lawful : (b : Bridge) (i : ℕ) (f : Fields) (at : LocalTime) → Lawful b → at .0 < circle → FieldsInRange f → Lawful (receiveFieldsOf (chosenOf b) b i f at .next)
 unfolding receiveFieldsOf
 heard-lawful b i f at h t r = port-kept b i _ h (received-lawful _ _ f at _ t r (h .ports-lawful i))
 
@@ -140,7 +141,7 @@ receive-lawful b port frame arrival bytes h =
     (λ e. by (readOf frame) refl (port-ready (b .setup .n) (b .links) port arrival (eqb-true _ _ e) .time))
     (λ _. h)
   where
-    by : (r : Reading) → readOf frame ≡ r → arrival < circle → Next (readBy b (port - 1) r (record { 0 = arrival }))
+    by : (r : Reading) → readOf frame ≡ r → arrival < circle → Next (readBy (chosenOf b) b (port - 1) r (record { 0 = arrival }))
     by (Refused k) q t = h
     by (Frame f) q t = heard-lawful b (port - 1) f (record { 0 = arrival }) h t (read-in-range frame f bytes q)
 
@@ -159,7 +160,7 @@ send-lawful b port t room h =
 
 -- ---- calls in a row
 
-after-lawful : (b : Bridge) (c : Call) → Lawful b → Lawful (after b c)
+pub after-lawful : (b : Bridge) (c : Call) → Lawful b → Lawful (after b c)
 after-lawful b (links mask) h = links-lawful b mask h
 after-lawful b (own-clock count byte seconds fraction at) h = own-lawful b count seconds fraction at byte h
 after-lawful b (receive port frame bytes arrival) h = receive-lawful b port frame arrival bytes h

@@ -9,14 +9,14 @@ use native.Mathlib.Omega.{arith}
 use borrow.Author.Tests.{ltb-true, ltb-false}
 use lib.Dec.{ltb}
 use Rattle.times.specs.declared.LocalTime.{LocalTime}
-use Rattle.choice.specs.Choose.{rankOf, candidateOf, ownCandidate, betterOf}
+use Rattle.choice.specs.Choose.{rankOf, candidateOf, ownCandidate, betterOf, bestOf}
 use Rattle.choice.specs.declared.Precedence.{Precedence}
 use Rattle.choice.specs.declared.Announcement.{Announcement}
 use Rattle.choice.specs.declared.Announcement.the-variants.{Silent, Announced}
 use Rattle.choice.specs.declared.Candidate.{Candidate}
 use Rattle.choice.specs.declared.Candidate.the-variants.{Nothing, Clock}
 use Rattle.port.specs.declared.Port.{Port}
-use Rattle.bridge.specs.Table.{portAt, candidatesFrom, bestOf}
+use Rattle.bridge.specs.Table.{portAt, candidatesFrom}
 use Rattle.bridge.specs.Chosen.{chosenOf}
 use Rattle.bridge.specs.Demands.{candidates, NoWorse}
 use Rattle.bridge.specs.declared.Bridge.{Bridge}

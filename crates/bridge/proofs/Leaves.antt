@@ -60,7 +60,7 @@ receive-leaves b port frame arrival l =
     at : LocalTime
     at = record { 0 = arrival }
 
-    by : (k : ℕ) → k ≤ 6 → i < length (b .ports) → 7 ≤ readBy b i (readAs k (rowsOf frame)) at .answer → FrameNoted b port frame arrival (readBy b i (readAs k (rowsOf frame)) at .next)
+    by : (k : ℕ) → k ≤ 6 → i < length (b .ports) → 7 ≤ readBy (chosenOf b) b i (readAs k (rowsOf frame)) at .answer → FrameNoted b port frame arrival (readBy (chosenOf b) b i (readAs k (rowsOf frame)) at .next)
     by zero m h q =
         let f = fieldsOf (rowsOf frame) in
         let d = receivedOf (settingAt b i) (chosenHop (chosenOf b)) f at (portAt (b .ports) i) in

@@ -10,11 +10,13 @@ pub mod Literals
 pub mod Leaves
 pub mod Least
 pub mod Choosing
+pub mod Numbered
 pub mod Sent
 pub mod Line
 pub mod Records
 pub mod Counts
 pub mod Hops
+pub mod Boards
 pub mod Unique
 pub mod Exact
 pub mod Defaults

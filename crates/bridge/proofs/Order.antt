@@ -182,7 +182,7 @@ receive-lowest b port frame arrival =
     at : LocalTime
     at = record { 0 = arrival }
 
-    read : (k : ℕ) → First k (readConditions frame) → First (readBy b i (readAs k (rowsOf frame)) at .answer) (readConditions frame ++ heardConditions b i frame)
+    read : (k : ℕ) → First k (readConditions frame) → First (readBy (chosenOf b) b i (readAs k (rowsOf frame)) at .answer) (readConditions frame ++ heardConditions b i frame)
     read zero f = first-more 1 (omega arith) refl f (frame-order (settingAt b i) (chosenHop (chosenOf b)) (fieldsOf (rowsOf frame)) at (portAt (b .ports) i))
     read (suc k) f = first-stays _ (λ e. omega (arith, e)) f
 

@@ -23,6 +23,7 @@ use Rattle.bridge.specs.Receive.{readBy, receiveFieldsOf, receiveOf}
 use Rattle.bridge.specs.Age.{ageOf}
 use Rattle.bridge.specs.Send.{sendOf}
 use Rattle.bridge.specs.Demands.{Call, links, own-clock, receive, age, send, after, run, along}
+use Rattle.bridge.specs.Chosen.{chosenOf}
 use Rattle.bridge.specs.declared.Bridge.{Bridge}
 use Rattle.bridge.specs.declared.Done.{Done}
 use Rattle.bridge.specs.declared.Linked.{Linked}
@@ -57,7 +58,7 @@ module _ (b : Bridge) where
   receive-alike port frame arrival =
       if-when (λ (d : Done). Alike b (d .next)) (eqb (portRefusal (b .setup .n) (b .links) port arrival) 0) (λ _. by (readOf frame)) (λ _. (refl, refl))
     where
-      by : (r : Reading) → Alike b (readBy b (port - 1) r (record { 0 = arrival }) .next)
+      by : (r : Reading) → Alike b (readBy (chosenOf b) b (port - 1) r (record { 0 = arrival }) .next)
       by (Readings.Refused k) = (refl, refl)
       by (Readings.Frame f) = (refl, length-set (b .ports) (port - 1) _)
 

@@ -79,7 +79,7 @@ receive-answers b port frame arrival =
     (λ _. by (readOf frame) refl)
     (λ _. port-is (λ (k : ℕ). ReceiveAnswers b port frame arrival (answers k b)) (b .setup .n) (b .links) port arrival (inr (inl ((omega arith, omega arith), refl))) (inr (inl ((omega arith, omega arith), refl))) (inl refl))
   where
-    by : (r : Reading) → readOf frame ≡ r → ReceiveAnswers b port frame arrival (readBy b (port - 1) r (record { 0 = arrival }))
+    by : (r : Reading) → readOf frame ≡ r → ReceiveAnswers b port frame arrival (readBy (chosenOf b) b (port - 1) r (record { 0 = arrival }))
     by (Readings.Refused k) q = ⊎-elim inl (λ h. inr (inl ((omega (arith, h .0), omega (arith, h .1)), refl))) (subst ReadAnswers q (read-answers frame))
     by (Readings.Frame f) q =
         received-is (settingAt b (port - 1)) _ f (record { 0 = arrival }) (portAt (b .ports) (port - 1)) (λ (d : PortDone). ReceiveAnswers b port frame arrival (storesPort b (port - 1) d))

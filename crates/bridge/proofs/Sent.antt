@@ -3,30 +3,27 @@
 use mathlib.Core.Path.{_≡_, refl, sym, ap, _∙_, subst}
 use mathlib.Core.List.{List}
 use mathlib.Core.Logic.{_⊎_, inl, inr}
-use Prim.Native.Nat.{ℕ, zero, suc, _-_, _<_, _≤_}
+use Prim.Native.Nat.{ℕ, _-_, _<_, _≤_}
 use native.Mathlib.Omega.{arith}
 use borrow.Author.Tests.{eqb-true, eqb-false}
-use lib.Dec.{eqb, lit<}
+use lib.Dec.{eqb}
 use lib.ListN.{length, take, drop}
 use Rattle.numbers.specs.Bytes.{numberAt}
 use Rattle.times.specs.Times.{counts}
-use Rattle.choice.specs.Rank.{PrecedenceFits, CandidateFits}
-use Rattle.choice.specs.Choose.{numberOf}
+use Rattle.choice.specs.Rank.{CandidateFits}
 use Rattle.choice.specs.declared.Precedence.{Precedence}
-use Rattle.choice.specs.declared.Candidate.{Candidate}
-use Rattle.choice.specs.declared.Candidate.the-variants.{Nothing, Clock}
+use Rattle.choice.specs.declared.Candidate.the-variants.{Clock}
 use Rattle.frame.specs.Frame.{frameLength}
 use Rattle.frame.specs.Read.{readOf}
 use Rattle.frame.specs.Write.{writeRefusal, bytesOf, writtenOf}
 use Rattle.frame.specs.Demands.{Typed}
 use Rattle.frame.specs.declared.Fields.{Fields}
 use Rattle.frame.specs.declared.Reading.the-variants as Readings
-use Rattle.port.specs.Lawful.{LawfulAnnouncement}
 use Rattle.port.specs.Send.{sendingBytes}
 use Rattle.port.specs.declared.PortDone.{PortDone}
 use Rattle.port.specs.declared.Sending.{Sending}
 use Rattle.port.specs.declared.Sending.the-variants.{Frame}
-use Rattle.bridge.specs.Table.{portAt, mostPorts}
+use Rattle.bridge.specs.Table.{portAt}
 use Rattle.bridge.specs.Arguments.{portRefusal, sendRefusal}
 use Rattle.bridge.specs.State.{Lawful, storesPort}
 use Rattle.bridge.specs.Receive.{receiveFieldsOf, receiveOf}
@@ -37,11 +34,12 @@ use Rattle.bridge.specs.declared.Bridge.{Bridge}
 use Rattle.bridge.specs.declared.Done.{Done}
 use Rattle.frame.proofs.FrameLaws.{filled}
 use Rattle.frame.proofs.Trip.{written-read, hop-byte, count-byte}
-use Rattle.port.proofs.PortLaws.{SentFor, sending-frame, sending-for, sending-written, sending-typed, received-is, announced-fits}
+use Rattle.port.proofs.PortLaws.{SentFor, sending-frame, sending-for, sending-written, sending-typed, received-is}
 use Rattle.bridge.proofs.CheckLaws.{Ready, send-ready}
 use Rattle.bridge.proofs.TableLaws.{chosen-lawful}
-use Rattle.bridge.proofs.StateLaws.{if-both, receive-read, chosen-number}
-use Rattle.bridge.proofs.Least.{chosen-own, chosen-announced}
+use Rattle.bridge.proofs.StateLaws.{if-both, receive-read}
+use Rattle.bridge.proofs.Least.{chosen-member}
+use Rattle.bridge.proofs.Numbered.{candidates-fit}
 
 -- ---- a send that answers 0
 
@@ -49,7 +47,7 @@ use Rattle.bridge.proofs.Least.{chosen-own, chosen-announced}
 pub record Wrote (b : Bridge) (port t : ℕ) (out left : List ℕ) : Type 0 where
   pub fields : Fields
   pub ready : Ready (b .setup .n) port t × (frameLength ≤ length out)
-  pub sending : sendingAt b (port - 1) (record { 0 = t }) ≡ Frame fields
+  pub sending : sendingAt (chosenOf b) b (port - 1) (record { 0 = t }) ≡ Frame fields
   pub bytes : left ≡ bytesOf fields (drop frameLength out)
 
 pub wrote : (b : Bridge) (port t : ℕ) (out : List ℕ) → sendOf b port t (length out) .answer ≡ 0 → Wrote b port t out (sendBytes b port t out)
@@ -70,7 +68,7 @@ wrote b port t out =
 abbrev pub SentAt : Bridge → ℕ → ℕ → Fields → Type 0
 SentAt b i t f = SentFor (chosenOf b) (chosenSamples b) (b .setup .sender) (record { 0 = t }) (portAt (b .ports) i) f
 
-pub sent-at : (b : Bridge) (i t : ℕ) (f : Fields) → sendingAt b i (record { 0 = t }) ≡ Frame f → SentAt b i t f
+pub sent-at : (b : Bridge) (i t : ℕ) (f : Fields) → sendingAt (chosenOf b) b i (record { 0 = t }) ≡ Frame f → SentAt b i t f
 unfolding sendingAt
 sent-at b i t f e = sending-for (chosenOf b) (chosenSamples b) (b .setup .sender) (record { 0 = t }) (portAt (b .ports) i) f e
 
@@ -96,17 +94,7 @@ module _ {b : Bridge} {port t : ℕ} {out left : List ℕ} (w : Wrote b port t o
 
 -- each part of the chosen clock has its bits
 pub chosen-fits : (b : Bridge) → Lawful b → CandidateFits (chosenOf b)
-chosen-fits b h = by (chosenOf b) refl
-  where
-    by : (c : Candidate) → chosenOf b ≡ c → CandidateFits c
-    by Nothing e = tt
-    by (Clock precedence hop zero) e =
-        let own = chosen-own b e in
-        (subst PrecedenceFits (sym (own .0)) (h .setup-lawful .typed .own-fits), omega (arith, own .1), lit< tt)
-    by (Clock precedence hop (suc i)) e =
-        let announced = chosen-announced b e in
-        let number : suc i ≤ mostPorts = subst (λ (n : ℕ). n ≤ mostPorts) (ap numberOf e) (chosen-number b (h .records)) in
-        announced-fits precedence hop (suc i) (announced .0) (subst LawfulAnnouncement (announced .1) (h .ports-lawful i .announcement)) (omega (arith, number))
+chosen-fits b h = candidates-fit b h (chosenOf b) (chosen-member b)
 
 module _ (b : Bridge) (port t : ℕ) (out : List ℕ) (lawful : Lawful b) (sent : sendOf b port t (length out) .answer ≡ 0) where
   -- byte 30 of a frame that was sent is the port's next frameCount
@@ -118,14 +106,14 @@ module _ (b : Bridge) (port t : ℕ) (out : List ℕ) (lawful : Lawful b) (sent 
   sent-frame-hop c = wrote-hop (wrote b port t out sent) c (subst CandidateFits c (chosen-fits b lawful) .1)
 
   -- a frame that was sent is one that Write takes
-  pub sent-frame-written : (f : Fields) → sendingAt b (port - 1) (record { 0 = t }) ≡ Frame f → writeRefusal f (length out) ≡ 0
+  pub sent-frame-written : (f : Fields) → sendingAt (chosenOf b) b (port - 1) (record { 0 = t }) ≡ Frame f → writeRefusal f (length out) ≡ 0
   unfolding sendingAt
   sent-frame-written f e =
       let r = wrote b port t out sent .ready in
       sending-written (chosenOf b) (chosenSamples b) (b .setup .sender) (record { 0 = t }) (portAt (b .ports) (port - 1)) f e (length out) (r .0 .time) (lawful .ports-lawful (port - 1)) (r .1)
 
   -- each of its fields has its bits
-  sent-typed : (f : Fields) → sendingAt b (port - 1) (record { 0 = t }) ≡ Frame f → Typed f
+  sent-typed : (f : Fields) → sendingAt (chosenOf b) b (port - 1) (record { 0 = t }) ≡ Frame f → Typed f
   unfolding sendingAt
   sent-typed f e =
       sending-typed (chosenOf b) (chosenSamples b) (b .setup .sender) (record { 0 = t }) (portAt (b .ports) (port - 1)) f e
@@ -134,7 +122,7 @@ module _ (b : Bridge) (port t : ℕ) (out : List ℕ) (lawful : Lawful b) (sent 
       (lawful .ports-lawful (port - 1))
 
   -- the first 64 bytes are read as the frame that was sent
-  read-back : (f : Fields) → sendingAt b (port - 1) (record { 0 = t }) ≡ Frame f → readOf (take frameLength (sendBytes b port t out)) ≡ Readings.Frame f
+  read-back : (f : Fields) → sendingAt (chosenOf b) b (port - 1) (record { 0 = t }) ≡ Frame f → readOf (take frameLength (sendBytes b port t out)) ≡ Readings.Frame f
   read-back f e =
       let w = wrote b port t out sent in
       let z = sent-frame-written f e in
@@ -161,9 +149,9 @@ module _ (b : Bridge) (port t : ℕ) (out : List ℕ) (lawful : Lawful b) (sent 
       }
 
   -- and what a neighbour makes of them, at a port with a link and a local time in range, is what Receive makes of the fields that were sent
-  pub sent-frame-received : (there : Bridge) (at arrival : ℕ) (f : Fields) → sendingAt b (port - 1) (record { 0 = t }) ≡ Frame f
+  pub sent-frame-received : (there : Bridge) (at arrival : ℕ) (f : Fields) → sendingAt (chosenOf b) b (port - 1) (record { 0 = t }) ≡ Frame f
       → portRefusal (there .setup .n) (there .links) at arrival ≡ 0
-      → receiveOf there at (take frameLength (sendBytes b port t out)) arrival ≡ receiveFieldsOf there (at - 1) f (record { 0 = arrival })
+      → receiveOf there at (take frameLength (sendBytes b port t out)) arrival ≡ receiveFieldsOf (chosenOf there) there (at - 1) f (record { 0 = arrival })
   sent-frame-received there at arrival f e clear = sym (receive-read there at _ arrival 0 (sym clear) (Readings.Frame f) refl (sym (read-back f e)))
 
   -- with 0, or with 7 to 9: a neighbour never refuses a sent frame by its bytes

@@ -161,7 +161,7 @@ module _ (b : Bridge) (count seconds fraction at k : ℕ) (e : k ≡ ownClockRef
 
 -- what is stored of a frame that was read goes by H of the state before the call
 pub receive-stores : (b : Bridge) (i : ℕ) (f : Fields) (at : LocalTime)
-    → storesPort b i (receivedOf (settingAt b i) (chosenHop (chosenOf b)) f at (portAt (b .ports) i)) ≡ receiveFieldsOf b i f at
+    → storesPort b i (receivedOf (settingAt b i) (chosenHop (chosenOf b)) f at (portAt (b .ports) i)) ≡ receiveFieldsOf (chosenOf b) b i f at
 unfolding receiveFieldsOf
 receive-stores b i f at = refl
 
@@ -170,9 +170,9 @@ module _ (b : Bridge) (port : ℕ) (frame : List ℕ) (arrival k : ℕ) (e : k �
   unfolding receiveOf
   receive-refused n = refuses b _ k _ e n
 
-  pub receive-read : (r : Reading) → k ≡ 0 → r ≡ readOf frame → readBy b (port - 1) r (record { 0 = arrival }) ≡ receiveOf b port frame arrival
+  pub receive-read : (r : Reading) → k ≡ 0 → r ≡ readOf frame → readBy (chosenOf b) b (port - 1) r (record { 0 = arrival }) ≡ receiveOf b port frame arrival
   unfolding receiveOf
-  receive-read r z q = ap (λ (x : Reading). readBy b (port - 1) x (record { 0 = arrival })) q ∙ goes-on _ k e _ _ z
+  receive-read r z q = ap (λ (x : Reading). readBy (chosenOf b) b (port - 1) x (record { 0 = arrival })) q ∙ goes-on _ k e _ _ z
 
 -- ---- send
 
@@ -185,18 +185,18 @@ module _ (b : Bridge) (port t : ℕ) (out : List ℕ) (k : ℕ) (e : k ≡ sendR
   unfolding sendBytes
   send-untouched n = stops _ k e _ _ n
 
-  pub send-stores : (sent : PortDone) → k ≡ 0 → sent ≡ sendingDone (sendingAt b (port - 1) (record { 0 = t })) (portAt (b .ports) (port - 1))
+  pub send-stores : (sent : PortDone) → k ≡ 0 → sent ≡ sendingDone (sendingAt (chosenOf b) b (port - 1) (record { 0 = t })) (portAt (b .ports) (port - 1))
       → storesPort b (port - 1) sent ≡ sendOf b port t (length out)
   unfolding sendOf
   send-stores sent z q = ap (storesPort b (port - 1)) q ∙ goes-on _ k e _ _ z
 
-  pub send-fills : k ≡ 0 → sendingBytes (sendingAt b (port - 1) (record { 0 = t })) out ≡ sendBytes b port t out
+  pub send-fills : k ≡ 0 → sendingBytes (sendingAt (chosenOf b) b (port - 1) (record { 0 = t })) out ≡ sendBytes b port t out
   unfolding sendBytes
   send-fills z = goes-on _ k e _ _ z
 
 -- what a port sends by the chosen clock and the samples of its number: where no clock is chosen the samples do not matter
 pub sending-chosen : (b : Bridge) (i : ℕ) (t : LocalTime) (c : Candidate) (s : Samples) → c ≡ chosenOf b → s ≡ samplesAt (numberOf c) (b .clock) (b .ports)
-    → sendingOf c s (b .setup .sender) t (portAt (b .ports) i) ≡ sendingAt b i t
+    → sendingOf c s (b .setup .sender) t (portAt (b .ports) i) ≡ sendingAt (chosenOf b) b i t
 unfolding sendingAt samplesOfChoice sendingOf
 sending-chosen b i t c s e q = go c s q ∙ ap (λ (x : Candidate). sendingOf x (samplesOfChoice x (b .clock) (b .ports)) (b .setup .sender) t (portAt (b .ports) i)) e
   where

@@ -11,7 +11,7 @@ use lib.ListN.{length, getD, take, drop}
 use lib.Pow.{pow-mono, shr-lt}
 use lib.Seq.{drop-cons, drop-length, getD-take, length-take-le}
 use Rattle.samples.specs.Keep.{LawfulSamples}
-use Rattle.choice.specs.Choose.{rankOf, candidateOf, betterOf, numberOf}
+use Rattle.choice.specs.Choose.{rankOf, candidateOf, betterOf, bestOf, numberOf}
 use Rattle.choice.specs.declared.Announcement.{Announcement}
 use Rattle.choice.specs.declared.Announcement.the-variants.{Silent, Announced}
 use Rattle.choice.specs.declared.Candidate.{Candidate}
@@ -22,7 +22,7 @@ use Rattle.port.specs.declared.Port.{Port}
 use Rattle.port.specs.declared.OwnClock.{OwnClock}
 use Rattle.port.specs.declared.Setting.{Setting}
 use Rattle.bridge.specs.Arguments.{bit}
-use Rattle.bridge.specs.Table.{portAt, losesLink, relinkedPort, samplesAt, samplesOfChoice, candidatesFrom, bestOf}
+use Rattle.bridge.specs.Table.{portAt, losesLink, relinkedPort, samplesAt, samplesOfChoice, candidatesFrom}
 use Rattle.bridge.specs.Fits.{delayFits, delaysFit}
 use Rattle.numbers.proofs.Branches.{if-true, if-false, if-when}
 

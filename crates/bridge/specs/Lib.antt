@@ -14,4 +14,5 @@ pub mod Order
 pub mod Literals
 pub mod Leaves
 pub mod Demands
+pub mod Board
 pub mod Promises

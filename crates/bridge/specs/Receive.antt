@@ -4,6 +4,7 @@ use Prim.Native.Nat.{ℕ, _-_}
 use lib.ListN.{getD}
 use Rattle.times.specs.declared.LocalTime.{LocalTime}
 use Rattle.choice.specs.Choose.{chosenHop}
+use Rattle.choice.specs.declared.Candidate.{Candidate}
 use Rattle.frame.specs.Read.{readOf}
 use Rattle.frame.specs.declared.Fields.{Fields}
 use Rattle.frame.specs.declared.Reading.{Reading}
@@ -22,16 +23,20 @@ use Rattle.bridge.specs.declared.Done.{Done}
 abbrev pub settingAt : Bridge → ℕ → Setting
 settingAt b i = getD (b .setup .settings) i measuredSetting
 
--- a frame that was read: steps 1 to 5, with H of the state before the call
-unfoldable pub receiveFieldsOf : Bridge → ℕ → Fields → LocalTime → Done
-receiveFieldsOf b i f at = storesPort b i (receivedOf (settingAt b i) (chosenHop (chosenOf b)) f at (portAt (b .ports) i))
+-- a frame that was read: steps 1 to 5, with H of a choice
+unfoldable pub receiveFieldsOf : Candidate → Bridge → ℕ → Fields → LocalTime → Done
+receiveFieldsOf choice b i f at = storesPort b i (receivedOf (settingAt b i) (chosenHop choice) f at (portAt (b .ports) i))
 
 -- 4, 5 or 6 by the frame's bytes, then 7 to 9
-abbrev pub readBy : Bridge → ℕ → Reading → LocalTime → Done
-readBy b i (Refused k) at = answers k b
-readBy b i (Frame f) at = receiveFieldsOf b i f at
+abbrev pub readBy : Candidate → Bridge → ℕ → Reading → LocalTime → Done
+readBy choice b i (Refused k) at = answers k b
+readBy choice b i (Frame f) at = receiveFieldsOf choice b i f at
 
 -- 2 and 3 first
+abbrev pub receiveBy : Candidate → Bridge → ℕ → List ℕ → ℕ → Done
+receiveBy choice b port frame arrival =
+    refusedOr b (portRefusal (b .setup .n) (b .links) port arrival) (readBy choice b (port - 1) (readOf frame) (record { 0 = arrival }))
+
+-- H is that of the state before the call
 unfoldable pub receiveOf : Bridge → ℕ → List ℕ → ℕ → Done
-receiveOf b port frame arrival =
-    refusedOr b (portRefusal (b .setup .n) (b .links) port arrival) (readBy b (port - 1) (readOf frame) (record { 0 = arrival }))
+receiveOf b port frame arrival = receiveBy (chosenOf b) b port frame arrival

@@ -7,7 +7,7 @@ use lib.ListN.{getD}
 use Rattle.samples.specs.declared.Samples.{Samples}
 use Rattle.samples.specs.declared.Samples.the-variants.{Empty}
 use Rattle.choice.specs.declared.Precedence.{Precedence}
-use Rattle.choice.specs.Choose.{candidateOf, ownCandidate, betterOf}
+use Rattle.choice.specs.Choose.{candidateOf, ownCandidate, bestOf}
 use Rattle.choice.specs.declared.Candidate.{Candidate}
 use Rattle.choice.specs.declared.Candidate.the-variants.{Nothing, Clock}
 use Rattle.port.specs.Record.{emptyPort}
@@ -40,11 +40,6 @@ relinkedPort links mask i port = cond (losesLink links mask i) emptyPort port
 unfoldable pub candidatesFrom : ℕ → List Port → List Candidate
 candidatesFrom k [] = []
 candidatesFrom k (p ∷ ps) = candidateOf k (p .announcement) ∷ candidatesFrom (suc k) ps
-
--- the best of a candidate and a list of them
-unfoldable pub bestOf : Candidate → List Candidate → Candidate
-bestOf best [] = best
-bestOf best (c ∷ cs) = bestOf (betterOf best c) cs
 
 -- own clock first, then the ports
 abbrev pub choiceOf : Bool → Precedence → List Port → Candidate

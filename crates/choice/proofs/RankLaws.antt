@@ -14,7 +14,8 @@ use Rattle.choice.specs.declared.Precedence.{Precedence}
 use Rattle.choice.specs.declared.Candidate.{Candidate}
 use Rattle.choice.specs.declared.Candidate.the-variants.{Nothing, Clock}
 use Rattle.choice.specs.declared.Rank.{Rank}
-use Rattle.numbers.proofs.Branches.{if-true, if-false, if-when}
+use Rattle.choice.proofs.BetterLaws.{better-fits}
+use Rattle.numbers.proofs.Branches.{if-true, if-false}
 
 -- ---- the two numbers of a clock's rank
 
@@ -94,13 +95,6 @@ lesser-numbers Nothing Nothing f g = refl
 lesser-numbers Nothing (Clock q k j) f g = sym (if-true _ _ _ (lt-ltb _ _ (clock-below q k j g)))
 lesser-numbers (Clock p h i) Nothing f g = sym (if-false _ _ _ (le-ltb _ _ (le-of-lt (clock-below p h i f))))
 lesser-numbers (Clock p h i) (Clock q k j) f g = rw (same-order (rankOf q k j) (rankOf p h i)) (made-of inNumbers (ltb (rankOf q k j) (rankOf p h i)) (Clock q k j) (Clock p h i))
-
--- the parts of the better have their bits
-better-fits : (c d : Candidate) → CandidateFits c → CandidateFits d → CandidateFits (betterOf c d)
-unfolding betterOf
-better-fits Nothing d f g = g
-better-fits (Clock p h i) Nothing f g = f
-better-fits (Clock p h i) (Clock q k j) f g = if-when CandidateFits (ltb (rankOf q k j) (rankOf p h i)) (λ _. g) (λ _. f)
 
 -- no rank is above what stands for no candidate, and against that any stays
 both-most : (m q s r t : ℕ) → q ≤ s → r ≤ t → q * m + r ≤ s * m + t

@@ -1,6 +1,7 @@
 -- Chosen: candidates, and the better of two.
 use Prim.Native.Nat.{ℕ, _+_, _*_}
 use mathlib.Core.Bool.{Bool, true, false, cond}
+use mathlib.Core.List.{List, foldl}
 use lib.Dec.{ltb}
 use Rattle.choice.specs.Hop.{lastHop}
 use Rattle.choice.specs.Precedence.{keyOf}
@@ -28,6 +29,10 @@ unfoldable pub betterOf : Candidate → Candidate → Candidate
 betterOf Nothing b = b
 betterOf (Clock p h i) Nothing = Clock p h i
 betterOf (Clock p h i) (Clock q k j) = cond (ltb (rankOf q k j) (rankOf p h i)) (Clock q k j) (Clock p h i)
+
+-- the best of a candidate and a list of them, compared one after the other
+unfoldable pub bestOf : Candidate → List Candidate → Candidate
+bestOf best candidates = foldl betterOf best candidates
 
 -- H of step 3
 unfoldable pub chosenHop : Candidate → ℕ

@@ -17,15 +17,19 @@ use Rattle.samples.specs.declared.Sample.{Sample}
 use Rattle.samples.specs.declared.Ends.{Ends}
 use Rattle.samples.specs.declared.Ends.the-variants.{Few, Both}
 use Rattle.timeline.specs.Line.{longestReach, InReach, readingAt}
+use Rattle.choice.specs.Compare.{Comparison}
 use Rattle.choice.specs.declared.Precedence.{Precedence}
 use Rattle.choice.specs.declared.Candidate.{Candidate}
 use Rattle.choice.specs.declared.Candidate.the-variants.{Nothing, Clock}
+use Rattle.bridge.specs.State.{Lawful}
 use Rattle.bridge.specs.Chosen.{chosenOf}
 use Rattle.bridge.specs.Send.{chosenSamples}
+use Rattle.bridge.specs.Board.{GoesThrough, chosenOn}
 use Rattle.bridge.specs.declared.Bridge.{Bridge}
-use Rattle.recorder.specs.Stamp.{latched, distanceOf, tooFar, stampAs, stampThrough, stampBy, stampOf, stampNo}
+use Rattle.recorder.specs.Stamp.{latched, distanceOf, tooFar, stampAs, stampThrough, stampBy, stampFor, stampOf, stampNo}
 use Rattle.recorder.specs.Demands.{InReachAnswers, ReachAnswers, ClockAnswers, StampAnswers}
 use Rattle.recorder.specs.declared.Stamped.the-variants.{At, Refused}
+use Rattle.bridge.proofs.Boards.{chosen-same}
 use Rattle.numbers.proofs.Branches.{if-true, if-false, if-when}
 use Rattle.times.proofs.TimeLaws.{moment-is}
 
@@ -60,6 +64,11 @@ module _ (b : Bridge) (latch : ℕ) where
   pub stamp-by : {c : Candidate} → latch < circle → c ≡ chosenOf b → stampBy c (chosenSamples b) (latched latch) ≡ stampOf b latch
   unfolding stampOf
   stamp-by h q = ap (λ (x : Candidate). stampBy x (chosenSamples b) (latched latch)) q ∙ if-true _ _ _ (lt-ltb _ _ h)
+
+  -- it is the same on every board, in whatever order and grouping that compares
+  pub stamp-same : Lawful b → (board : Comparison ℕ) → GoesThrough board b → stampFor (chosenOn board b) b latch ≡ stampOf b latch
+  unfolding stampOf
+  stamp-same lawful board goes = ap (λ (c : Candidate). stampFor c b latch) (chosen-same b lawful board goes)
 
   -- each answer, with what holds where it is given
   pub stamp-answers : StampAnswers b latch (stampOf b latch)

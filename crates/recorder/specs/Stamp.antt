@@ -18,6 +18,7 @@ use Rattle.samples.specs.declared.Ends.the-variants.{Few, Both}
 use Rattle.timeline.specs.Line.{longestReach, readingAt}
 use Rattle.choice.specs.declared.Candidate.{Candidate}
 use Rattle.choice.specs.declared.Candidate.the-variants.{Nothing, Clock}
+use Rattle.bridge.specs.Table.{samplesOfChoice}
 use Rattle.bridge.specs.Chosen.{chosenOf}
 use Rattle.bridge.specs.Send.{chosenSamples}
 use Rattle.bridge.specs.declared.Bridge.{Bridge}
@@ -65,8 +66,12 @@ stampBy Nothing samples latch = Refused noClock
 stampBy (Clock precedence hop number) samples latch = stampThrough (endsOf samples) latch
 
 -- 2 first; any number may be given for the latch
+abbrev pub stampFor : Candidate → Bridge → ℕ → Stamped
+stampFor choice b latch = cond (ltb latch circle) (stampBy choice (samplesOfChoice choice (b .clock) (b .ports)) (latched latch)) (Refused outOfRange)
+
+-- the choice is that of the state
 unfoldable pub stampOf : Bridge → ℕ → Stamped
-stampOf b latch = cond (ltb latch circle) (stampBy (chosenOf b) (chosenSamples b) (latched latch)) (Refused outOfRange)
+stampOf b latch = stampFor (chosenOf b) b latch
 
 -- ---- the number of an answer, and the grand time that it carries
 
