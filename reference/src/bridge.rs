@@ -5,6 +5,7 @@ use crate::answer::{
     OUT_OF_REACH, OUT_OF_SEQUENCE, TOO_FEW_SAMPLES,
 };
 use crate::frame::{self, Fields, FRAME_LEN, MAC_LEN};
+use crate::order::{InTurn, Order};
 use crate::port::{Heard, Port};
 use crate::rules::{self, DELAY_MOST, HOP_NONE, REACH_END, STAMPED_MOST};
 use crate::samples::{Sample, Samples};
@@ -74,12 +75,13 @@ impl Table for Vec<Port> {
     }
 }
 
-/// A bridge over some place for its ports.
+/// A bridge over some place for its ports, with some order in which it compares candidates.
 #[derive(Clone, Copy, Debug, PartialEq, Eq)]
-pub struct Bridge<T> {
+pub struct Bridge<T, O = InTurn> {
     pub settings: Settings,
     pub own: OwnClock,
     pub ports: T,
+    order: O,
 }
 
 /// The bridge with its ports in a list.
@@ -108,17 +110,25 @@ pub trait Calls {
 }
 
 impl<T: Table> Bridge<T> {
-    /// Makes the bridge that a refused setup leaves.
+    /// Makes the bridge that a refused setup leaves, which compares one port after another.
     pub fn empty() -> Self {
+        Self::comparing(InTurn)
+    }
+}
+
+impl<T: Table, O: Order> Bridge<T, O> {
+    /// Makes the bridge that a refused setup leaves, which compares in an order.
+    pub fn comparing(order: O) -> Self {
         Bridge {
             settings: Settings::default(),
             own: OwnClock::default(),
             ports: T::of(&[]),
+            order,
         }
     }
 
     /// Makes a bridge after a plan whose values are in range.
-    fn planned(plan: &Plan) -> Option<Self> {
+    fn planned(plan: &Plan, order: O) -> Option<Self> {
         let wanted = plan.delays.get(..usize::from(plan.ports))?;
         let timeout = plan.timeout.unwrap_or(TIMEOUT_DEFAULT);
         let back = plan.back.unwrap_or(BACK_DEFAULT);
@@ -137,6 +147,7 @@ impl<T: Table> Bridge<T> {
             },
             own: OwnClock::default(),
             ports: T::of(&ports),
+            order,
         })
     }
 
@@ -144,6 +155,13 @@ impl<T: Table> Bridge<T> {
     fn place(&self, port: u8) -> Option<usize> {
         let place = usize::from(port).checked_sub(1)?;
         (place < self.ports.as_ref().len()).then_some(place)
+    }
+
+    /// Gives the best of all clocks that can be followed, and goes on to the order of the next choice.
+    fn choose(&mut self) -> Option<Chosen> {
+        let chosen = self.best();
+        self.order.turn();
+        chosen
     }
 
     /// Gives the best of all clocks that can be followed.
@@ -161,7 +179,7 @@ impl<T: Table> Bridge<T> {
                 port,
             })
         });
-        own.into_iter().chain(heard).min()
+        self.order.best(own.into_iter().chain(heard))
     }
 
     /// Gives the samples of the own clock or of a port that is there.
@@ -174,8 +192,8 @@ impl<T: Table> Bridge<T> {
     }
 
     /// Gives the chosen clock with its older and its newer sample, or refuses.
-    fn followed(&self) -> Result<(Chosen, Sample, Sample), Answer> {
-        let chosen = self.best().ok_or(NO_CLOCK)?;
+    fn followed(&mut self) -> Result<(Chosen, Sample, Sample), Answer> {
+        let chosen = self.choose().ok_or(NO_CLOCK)?;
         let (older, newer) = self
             .samples(chosen.port)
             .and_then(Samples::both)
@@ -184,7 +202,7 @@ impl<T: Table> Bridge<T> {
     }
 
     /// Gives the chosen clock, its newer error and the grand time for a departure, or refuses.
-    fn to_send(&self, departure: u64) -> Result<(Chosen, i32, u128), Answer> {
+    fn departing(&mut self, departure: u64) -> Result<(Chosen, i32, u128), Answer> {
         let (chosen, older, newer) = self.followed()?;
         if spread(departure, newer.local) >= REACH_END {
             return Err(OUT_OF_REACH);
@@ -223,17 +241,17 @@ impl OwnClock {
     }
 }
 
-impl<T: Table> Calls for Bridge<T> {
+impl<T: Table, O: Order> Calls for Bridge<T, O> {
     /// Starts anew from a plan, without ports if it is refused.
     #[cfg_attr(feature = "calls", inline(never))]
     fn setup(&mut self, plan: &Plan) -> Answer {
-        match Self::planned(plan) {
+        match Self::planned(plan, self.order) {
             Some(bridge) => {
                 *self = bridge;
                 DONE
             }
             None => {
-                *self = Self::empty();
+                *self = Self::comparing(self.order);
                 BAD_SETUP
             }
         }
@@ -272,7 +290,7 @@ impl<T: Table> Calls for Bridge<T> {
     fn receive(&mut self, port: u8, bytes: &[u8], arrival: u64) -> Answer {
         match self.place(port) {
             Some(place) if is_local(arrival) => {
-                let chosen_hop = self.best().map_or(HOP_NONE, |chosen| chosen.hop);
+                let chosen_hop = self.choose().map_or(HOP_NONE, |chosen| chosen.hop);
                 self.ports.as_mut()[place].receive(chosen_hop, bytes, arrival)
             }
             _ => OUT_OF_RANGE,
@@ -295,7 +313,7 @@ impl<T: Table> Calls for Bridge<T> {
     /// Gives port and held hop of the best clock.
     #[cfg_attr(feature = "calls", inline(never))]
     fn chosen(&mut self) -> Option<(u8, u8)> {
-        self.best().map(|chosen| (chosen.port, chosen.hop))
+        self.choose().map(|chosen| (chosen.port, chosen.hop))
     }
 
     /// Writes the next frame of a port, or refuses and leaves the output alone.
@@ -312,7 +330,7 @@ impl<T: Table> Calls for Bridge<T> {
             return BAD_LENGTH;
         }
         let count = self.ports.as_mut()[place].use_count();
-        let (chosen, error, sent) = match self.to_send(departure) {
+        let (chosen, error, sent) = match self.departing(departure) {
             Ok(found) => found,
             Err(refusal) => return refusal,
         };

@@ -10,6 +10,7 @@ pub mod hex;
 pub mod input;
 pub mod listing;
 pub mod lives;
+pub mod order;
 pub mod port;
 pub mod program;
 pub mod ptp;

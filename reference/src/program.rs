@@ -25,14 +25,15 @@ where
     ByValue: Program<Bridge = Handed>,
 {
     match std::env::args().nth(1).as_deref() {
-        None => answer_input(InPlace::on(Listed::empty())),
-        Some("byvalue") => answer_input(ByValue::on(Handed(Bridge::empty()))),
+        None => answer_on::<InPlace>(Listed::empty()),
+        Some("byvalue") => answer_on::<ByValue>(Handed(Bridge::empty())),
         Some(_) => Err(io::Error::other("the only argument is byvalue")),
     }
 }
 
-/// Has a program answer standard input.
-fn answer_input<P: Program>(mut program: P) -> io::Result<()> {
+/// Has a program answer standard input on a bridge that was not set up.
+pub fn answer_on<P: Program>(bridge: P::Bridge) -> io::Result<()> {
+    let mut program = P::on(bridge);
     let answer = |line: &[u8], out: &mut Vec<u8>| program.answer(line, out);
     answer_lines(io::stdin().lock(), io::stdout().lock(), P::LONGEST, answer)
 }

@@ -1,7 +1,7 @@
 //! The figures that are known beforehand.
 
 use crate::answer::{BEYOND_RANGE, NO_CLOCK, OUT_OF_RANGE, OUT_OF_REACH, TOO_FEW_SAMPLES};
-use crate::bridge::{Calls, Listed, Plan};
+use crate::bridge::{Bridge, Calls, Chosen, Listed, Plan, OWN};
 use crate::byvalue::{Flat, Handed};
 use crate::listing::Listing;
 use crate::lives::census::{Census, TimestampCensus};
@@ -10,6 +10,8 @@ use crate::lives::limits;
 use crate::lives::lives;
 use crate::lives::random::Random;
 use crate::lives::stamped::Stamper;
+use crate::order::{better, paired, Shuffled};
+use crate::port::Port;
 use crate::program::Program;
 use crate::ptp::{export, import, on_scale, Scale, NANOSECONDS_END, SECONDS_END};
 use crate::replay::Replay;
@@ -20,6 +22,7 @@ use crate::rules::{
 use crate::samples::{Sample, Samples};
 use crate::stamps::Stamps;
 use crate::times::{distance, moved, next_count, spread, GRAND_END, LOCAL_END, PART_END};
+use std::collections::HashSet;
 
 const SECOND: u128 = 1 << 40;
 /// The greatest distance that is stamped, by document 02's figure.
@@ -176,6 +179,23 @@ fn both_forms_of_the_state_answer_alike() {
         out.clear();
         handed.answer(line, &mut out);
         assert_eq!(out, reply);
+        Ok(())
+    });
+    assert!(played.is_ok());
+}
+
+/// A bridge that compares in orders from a seed gives the same answers as one that compares its ports in turn, and between calls has the same choice.
+#[test]
+fn every_order_answers_alike() {
+    let mut shuffled = Replay {
+        bridge: Bridge::<Vec<Port>, Shuffled>::comparing(Shuffled::new(1)),
+    };
+    let mut out = Vec::new();
+    let played = lives(20_000, 3, &mut |line, reply, bridge| {
+        out.clear();
+        shuffled.answer(line, &mut out);
+        assert_eq!(out, reply);
+        assert_eq!(shuffled.bridge.best(), bridge.best());
         Ok(())
     });
     assert!(played.is_ok());
@@ -658,4 +678,53 @@ fn census_misses_timestamps() {
     census.count(b"U 0 0001", b"0D");
     assert!(census.missing().contains(&String::from("U beyond the end")));
     assert!(!census.missing().contains(&String::from("U below zero")));
+}
+
+/// Gives three candidates of which the last two differ in their port alone.
+fn alike() -> Vec<Option<Chosen>> {
+    let candidate = |hop, port| {
+        Some(Chosen {
+            precedence: 7,
+            hop,
+            port,
+        })
+    };
+    vec![candidate(3, OWN), candidate(2, 5), candidate(2, 4)]
+}
+
+/// Pairs come in each order and grouping: three leaves make the twelve trees that there are.
+#[test]
+fn every_pairing_is_drawn() {
+    let pairing = |seed| {
+        let leaves = vec!["a".to_string(), "b".to_string(), "c".to_string()];
+        paired(leaves, Random::new(seed), |one, other| {
+            format!("({one}{other})")
+        })
+    };
+    let drawn: HashSet<Option<String>> = (0..1_000).map(pairing).collect();
+    assert_eq!(drawn.len(), 12);
+    assert!(drawn.contains(&Some("((ab)c)".to_string())));
+    assert!(drawn.contains(&Some("(c(ba))".to_string())));
+}
+
+/// Every pairing comes to the least candidate, and where the port is left out of the comparison some come to another one.
+#[test]
+fn every_pairing_chooses_the_same() {
+    let by_hop_alone = |one: Option<Chosen>, other: Option<Chosen>| {
+        if other.map(|clock| clock.hop) < one.map(|clock| clock.hop) {
+            other
+        } else {
+            one
+        }
+    };
+    let least = alike().into_iter().flatten().min();
+    let wrong: HashSet<Option<u8>> = (0..1_000)
+        .map(|seed| {
+            assert_eq!(paired(alike(), Random::new(seed), better).flatten(), least);
+            paired(alike(), Random::new(seed), by_hop_alone)
+                .flatten()
+                .map(|clock| clock.port)
+        })
+        .collect();
+    assert_eq!(wrong, HashSet::from([Some(4), Some(5)]));
 }

@@ -1,6 +1,6 @@
 -- On every board the choice is the same, in whatever order and grouping it compares; and so are the answers, the next states and the bytes of its calls, and the state after any calls.
 use mathlib.Core.Path.{_≡_, refl, sym, ap, _∙_, subst}
-use mathlib.Core.List.{List, [], _∷_, append-nil, List·Memᴰ·not-nil}
+use mathlib.Core.List.{List, [], _∷_, _++_, append-nil, List·Memᴰ·not-nil}
 use Prim.Native.Nat.{ℕ}
 use Rattle.choice.specs.Choose.{ownCandidate, betterOf, bestOf}
 use Rattle.choice.specs.Permutation.{Permutation}
@@ -16,7 +16,8 @@ use Rattle.bridge.specs.Demands.{candidates, Call, links, own-clock, rec
 use Rattle.bridge.specs.Board.{candidateUnder, allNumbers, GoesThrough, chosenOn, afterOn, runOn}
 use Rattle.bridge.specs.declared.Bridge.{Bridge}
 use Rattle.bridge.specs.declared.Done.{Done}
-use Rattle.choice.proofs.CompareLaws.{best-permuted, any-way}
+use Rattle.choice.proofs.PermutationLaws.{members-back}
+use Rattle.choice.proofs.CompareLaws.{best-permuted, best-parts, any-way}
 use Rattle.bridge.proofs.Keeps.{after-lawful}
 use Rattle.bridge.proofs.Numbered.{candidates-numbered, numbered-fits, candidates-fit}
 
@@ -31,6 +32,10 @@ module _ (b : Bridge) (lawful : Lawful b) where
   -- for every order of the candidates
   pub chosen-permuted : (l : List Candidate) → Permutation (candidates b) l → bestOf Nothing l ≡ chosenOf b
   chosen-permuted l p = sym (best-permuted (candidates b) l (candidates-fit b lawful) p) ∙ chosen-best b
+
+  -- for two parts of them by themselves, and then the better of the two bests
+  pub chosen-parts : (l k : List Candidate) → Permutation (candidates b) (l ++ k) → betterOf (bestOf Nothing l) (bestOf Nothing k) ≡ chosenOf b
+  chosen-parts l k p = best-parts l k (λ x m. candidates-fit b lawful x (members-back p m)) ∙ chosen-permuted (l ++ k) p
 
   module _ (board : Comparison ℕ) (goes : GoesThrough board b) where
     -- Chosen

@@ -48,6 +48,15 @@ module _ (p : Precedence) (h i : ℕ) (q : Precedence) (k j : ℕ) (f : Candidat
 
 -- ---- the laws one by one
 
+none-better : (a : Candidate) → betterOf Nothing a ≡ a
+unfolding betterOf
+none-better a = refl
+
+better-none : (a : Candidate) → betterOf a Nothing ≡ a
+unfolding betterOf
+better-none Nothing = refl
+better-none (Clock p h i) = refl
+
 -- of two things with numbers, that with the lesser one does not depend on their order, where the number names the thing
 lesser-commutative : {A : Type 0} (x y : ℕ) {a b : A} → (x ≡ y → a ≡ b) → cond (ltb y x) b a ≡ cond (ltb x y) a b
 lesser-commutative {A} x y {a} {b} named = by (ltb y x) refl (ltb x y) refl where
@@ -68,7 +77,7 @@ better-associative : (a b c : Candidate) → betterOf (betterOf a b) c ≡ bette
 unfolding betterOf
 better-associative Nothing b c = refl
 better-associative (Clock p h i) Nothing c = refl
-better-associative (Clock p h i) (Clock q k j) Nothing = if-when (λ (x : Candidate). betterOf x Nothing ≡ x) (ltb (rankOf q k j) (rankOf p h i)) (λ _. refl) (λ _. refl)
+better-associative (Clock p h i) (Clock q k j) Nothing = better-none (betterOf (Clock p h i) (Clock q k j))
 better-associative (Clock p h i) (Clock q k j) (Clock r l m) = three (rankOf p h i) (rankOf q k j) (rankOf r l m) refl refl refl where
   three : (x y z : ℕ) → rankOf p h i ≡ x → rankOf q k j ≡ y → rankOf r l m ≡ z
       → betterOf (cond (ltb y x) (Clock q k j) (Clock p h i)) (Clock r l m) ≡ betterOf (Clock p h i) (cond (ltb z y) (Clock r l m) (Clock q k j))
@@ -85,11 +94,6 @@ unfolding betterOf
 better-idempotent Nothing = refl
 better-idempotent (Clock p h i) = if-when (λ (x : Candidate). x ≡ Clock p h i) (ltb (rankOf p h i) (rankOf p h i)) (λ _. refl) (λ _. refl)
 
-better-none : (a : Candidate) → betterOf a Nothing ≡ a
-unfolding betterOf
-better-none Nothing = refl
-better-none (Clock p h i) = refl
-
 -- the parts of the better have their bits
 pub better-fits : (a b : Candidate) → CandidateFits a → CandidateFits b → CandidateFits (betterOf a b)
 unfolding betterOf
@@ -100,14 +104,13 @@ better-fits (Clock p h i) (Clock q k j) f g = if-when CandidateFits (ltb (rankOf
 -- ---- together
 
 pub better-monoid : CommutativeIdempotentMonoid CandidateFits betterOf Nothing
-unfolding betterOf
 better-monoid = record {
   none-in = tt;
   op-in = better-fits;
   associative = λ a b c _ _ _. better-associative a b c;
   commutative = better-commutative;
   idempotent = λ a _. better-idempotent a;
-  neutral-left = λ a _. refl;
+  neutral-left = λ a _. none-better a;
   neutral-right = λ a _. better-none a;
 }
 

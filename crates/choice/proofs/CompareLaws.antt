@@ -32,6 +32,11 @@ best-permuted l k fl p = best-same l k fl (λ x m. fl x (members-back p m)) (λ 
 
 -- ---- grouping
 
+-- the better of the bests of two parts
+pub best-parts : (l k : List Candidate) → AllFit (l ++ k) → betterOf (bestOf Nothing l) (bestOf Nothing k) ≡ bestOf Nothing (l ++ k)
+unfolding bestOf
+best-parts l k fits = sym (parts-folded better-monoid l k (λ x m. fits x (Memᴰ·append-left k m)) (λ x m. fits x (Memᴰ·append-right l m)))
+
 module _ {A : Type 0} (candidate : A → Candidate) where
   -- the candidate of each of these has its bits
   abbrev pub EachFits : List A → Type 0
@@ -47,9 +52,10 @@ module _ {A : Type 0} (candidate : A → Candidate) where
   winner-best (winners x y) fits =
       let left : EachFits (comparedIn x) = λ a m. fits a (Memᴰ·append-left (comparedIn y) m) in
       let right : EachFits (comparedIn y) = λ a m. fits a (Memᴰ·append-right (comparedIn x) m) in
+      let whole = map-append candidate (comparedIn x) (comparedIn y) in
       (λ i. betterOf (winner-best x left i) (winner-best y right i))
-      ∙ sym (parts-folded better-monoid (map candidate (comparedIn x)) (map candidate (comparedIn y)) (all-fit (comparedIn x) left) (all-fit (comparedIn y) right))
-      ∙ ap (bestOf Nothing) (sym (map-append candidate (comparedIn x) (comparedIn y)))
+      ∙ best-parts (map candidate (comparedIn x)) (map candidate (comparedIn y)) (subst AllFit whole (all-fit (comparedIn x ++ comparedIn y) fits))
+      ∙ ap (bestOf Nothing) (sym whole)
 
   -- ---- both
 

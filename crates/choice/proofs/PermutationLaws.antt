@@ -1,4 +1,4 @@
--- A list in another order holds the same, and is what the kit's library calls a permutation.
+-- A list in another order is what the kit's library calls a permutation, and holds the same.
 use mathlib.Core.Path.{_≡_, refl, sym, subst}
 use mathlib.Core.List.{List, [], _∷_, _++_, List·Memᴰ, List·Memᴰ·head, List·Memᴰ·tail, List·Memᴰ·cases-cons, List·Memᴰ·append-cases, Memᴰ·append-left, Memᴰ·append-right}
 use mathlib.Core.List.{Perm, Perm·nil, Perm·cons, Perm·symm, Perm·trans, Perm·cons-inv, Perm·nil-eq, Perm·subset, perm-middle, append-of-mem, mem-cons-self}
@@ -6,6 +6,20 @@ use mathlib.Core.Logic.{⊎-elim, ∥∥₁-elim, ∥∥₁-map, ∥∥₁-prop}
 use Rattle.choice.specs.Permutation.{Permutation, empty, placed}
 
 module _ {A : Type 0} where
+  -- ---- the library's permutations, no more and no fewer
+
+  pub permutation-perm : {l k : List A} → Permutation l k → Perm l k
+  permutation-perm empty = Perm·nil
+  permutation-perm (placed a l before after p) = Perm·trans (Perm·cons a (permutation-perm p)) (Perm·symm (perm-middle before after))
+
+  pub perm-permutation : (l k : List A) → Perm l k → ∥ Permutation l k ∥₁
+  perm-permutation [] k p = ∣ subst (Permutation []) (Perm·nil-eq p) empty ∣₁
+  perm-permutation (a ∷ l) k p =
+      ∥∥₁-elim (append-of-mem (Perm·subset p a mem-cons-self)) ∥∥₁-prop
+      (λ (before, after, e).
+      let around : Perm l (before ++ after) = Perm·cons-inv (Perm·trans (subst (Perm (a ∷ l)) e p) (perm-middle before after)) in
+      ∥∥₁-map (perm-permutation l (before ++ after) around) (λ q. subst (Permutation (a ∷ l)) (sym e) (placed a l before after q)))
+
   -- ---- the same members
 
   -- what stands around a place, and what stands at it
@@ -25,17 +39,3 @@ module _ {A : Type 0} where
       (λ n. List·Memᴰ·tail (members-back p (Memᴰ·append-left after n)))
       (λ n. ⊎-elim List·Memᴰ·head (λ r. List·Memᴰ·tail (members-back p (Memᴰ·append-right before r))) (List·Memᴰ·cases-cons n))
       (List·Memᴰ·append-cases before m)
-
-  -- ---- the library's permutations, no more and no fewer
-
-  pub permutation-perm : {l k : List A} → Permutation l k → Perm l k
-  permutation-perm empty = Perm·nil
-  permutation-perm (placed a l before after p) = Perm·trans (Perm·cons a (permutation-perm p)) (Perm·symm (perm-middle before after))
-
-  pub perm-permutation : (l k : List A) → Perm l k → ∥ Permutation l k ∥₁
-  perm-permutation [] k p = ∣ subst (Permutation []) (Perm·nil-eq p) empty ∣₁
-  perm-permutation (a ∷ l) k p =
-      ∥∥₁-elim (append-of-mem (Perm·subset p a mem-cons-self)) ∥∥₁-prop
-      (λ (before, after, e).
-      let around : Perm l (before ++ after) = Perm·cons-inv (Perm·trans (subst (Perm (a ∷ l)) e p) (perm-middle before after)) in
-      ∥∥₁-map (perm-permutation l (before ++ after) around) (λ q. subst (Permutation (a ∷ l)) (sym e) (placed a l before after q)))

@@ -5,6 +5,7 @@ const FIRST_FACTOR: u64 = 0xBF58_476D_1CE4_E5B9;
 const SECOND_FACTOR: u64 = 0x94D0_49BB_1331_11EB;
 
 /// A source of numbers that depend on the seed only.
+#[derive(Clone, Copy, Debug, PartialEq, Eq)]
 pub struct Random {
     state: u64,
 }
@@ -28,6 +29,11 @@ impl Random {
         ((u128::from(self.bits()) * u128::from(end)) >> 64) as u64
     }
 
+    /// Gives a place in a list of some length.
+    pub fn index(&mut self, length: usize) -> usize {
+        self.below(length as u64) as usize
+    }
+
     /// Gives a number from least to most, both included.
     pub fn within(&mut self, least: u64, most: u64) -> u64 {
         least + self.below(most - least + 1)
@@ -45,7 +51,7 @@ impl Random {
 
     /// Picks one of some values.
     pub fn pick<T: Copy>(&mut self, values: &[T]) -> T {
-        values[self.below(values.len() as u64) as usize]
+        values[self.index(values.len())]
     }
 
     /// Gives a number whose count of bits is itself by chance, at most so many.

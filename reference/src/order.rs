@@ -1,0 +1,81 @@
+//! The order and the grouping in which candidates are compared, which makes no difference to who is best.
+
+use crate::bridge::{Chosen, PORTS_MOST};
+use crate::lives::random::Random;
+use std::fmt::Debug;
+
+/// A way to find the best of some candidates.
+pub trait Order: Copy + Debug {
+    /// Gives the best, or none where there are none.
+    fn best(&self, candidates: impl Iterator<Item = Chosen>) -> Option<Chosen>;
+    /// Goes on to the way of the next choice.
+    fn turn(&mut self);
+}
+
+/// One after another, as they come.
+#[derive(Clone, Copy, Debug, PartialEq, Eq)]
+pub struct InTurn;
+
+impl Order for InTurn {
+    /// Gives the least.
+    fn best(&self, candidates: impl Iterator<Item = Chosen>) -> Option<Chosen> {
+        candidates.min()
+    }
+
+    /// Stays as it is.
+    fn turn(&mut self) {}
+}
+
+/// The places of the own clock and of all ports.
+const PLACES: usize = PORTS_MOST + 1;
+
+/// At each choice another order and another grouping, from a seed, in which a place without a candidate is compared too.
+#[derive(Clone, Copy, Debug, PartialEq, Eq)]
+pub struct Shuffled {
+    random: Random,
+}
+
+impl Shuffled {
+    /// Starts from a seed.
+    pub fn new(seed: u64) -> Shuffled {
+        Shuffled {
+            random: Random::new(seed),
+        }
+    }
+}
+
+impl Order for Shuffled {
+    /// Compares any two places, and then the better of them with the others.
+    fn best(&self, candidates: impl Iterator<Item = Chosen>) -> Option<Chosen> {
+        let mut places: Vec<Option<Chosen>> = candidates.map(Some).collect();
+        places.resize(PLACES, None);
+        paired(places, self.random, better).flatten()
+    }
+
+    /// Draws the next number.
+    fn turn(&mut self) {
+        self.random.bits();
+    }
+}
+
+/// Takes any two out and puts back what is made of them, until one is left.
+pub(crate) fn paired<T>(
+    mut left: Vec<T>,
+    mut random: Random,
+    made_of: impl Fn(T, T) -> T,
+) -> Option<T> {
+    while left.len() > 1 {
+        let one = left.swap_remove(random.index(left.len()));
+        let other = left.swap_remove(random.index(left.len()));
+        left.push(made_of(one, other));
+    }
+    left.pop()
+}
+
+/// Gives the better of two candidates, the first if neither is.
+pub(crate) fn better(one: Option<Chosen>, other: Option<Chosen>) -> Option<Chosen> {
+    match (one, other) {
+        (Some(one), Some(other)) => Some(if other < one { other } else { one }),
+        (found, None) | (None, found) => found,
+    }
+}
