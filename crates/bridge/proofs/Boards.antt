@@ -2,12 +2,11 @@
 use mathlib.Core.Path.{_≡_, refl, sym, ap, _∙_, subst}
 use mathlib.Core.List.{List, [], _∷_, _++_, append-nil, List·Memᴰ·not-nil}
 use Prim.Native.Nat.{ℕ}
-use Rattle.choice.specs.Choose.{ownCandidate, betterOf, bestOf}
+use Rattle.choice.specs.Choose.{betterOf, bestOf}
 use Rattle.choice.specs.Permutation.{Permutation}
 use Rattle.choice.specs.Compare.{Comparison, comparedIn}
 use Rattle.choice.specs.declared.Candidate.{Candidate}
 use Rattle.choice.specs.declared.Candidate.the-variants.{Nothing}
-use Rattle.bridge.specs.Table.{candidatesFrom}
 use Rattle.bridge.specs.State.{Lawful}
 use Rattle.bridge.specs.Receive.{receiveBy, receiveOf}
 use Rattle.bridge.specs.Chosen.{chosenOf}

@@ -15,7 +15,7 @@ use Rattle.choice.specs.Monoid.{CommutativeIdempotentMonoid}
 use Rattle.choice.specs.declared.Precedence.{Precedence}
 use Rattle.choice.specs.declared.Candidate.{Candidate}
 use Rattle.choice.specs.declared.Candidate.the-variants.{Nothing, Clock}
-use Rattle.numbers.proofs.Branches.{if-true, if-false, if-when}
+use Rattle.numbers.proofs.Branches.{if-true, if-when}
 
 -- ---- what stands in a rank: precedence, then held hop, then port, and nothing else
 

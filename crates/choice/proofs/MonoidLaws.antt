@@ -13,7 +13,7 @@ module _ {A : Type 0} {In : A → Type 0} {op : A → A → A} {none : A} (laws 
   abbrev pub Each : List A → Type 0
   Each l = (x : A) → List·Memᴰ x l → In x
 
-  pub each-rest : {a : A} {l : List A} → Each (a ∷ l) → Each l
+  each-rest : {a : A} {l : List A} → Each (a ∷ l) → Each l
   each-rest each x m = each x (List·Memᴰ·tail m)
 
   each-first : {a : A} {l : List A} → Each (a ∷ l) → In a
@@ -25,11 +25,11 @@ module _ {A : Type 0} {In : A → Type 0} {op : A → A → A} {none : A} (laws 
   from-in a [] i each = i
   from-in a (x ∷ l) i each = from-in (op a x) l (laws .op-in a x i (each-first each)) (each-rest each)
 
-  pub folded-in : (l : List A) → Each l → In (folded l)
+  folded-in : (l : List A) → Each l → In (folded l)
   folded-in l each = from-in none l (laws .none-in) each
 
   -- a fold that starts from a is a with all of the list
-  pub from-folded : (a : A) (l : List A) → In a → Each l → foldl op a l ≡ op a (folded l)
+  from-folded : (a : A) (l : List A) → In a → Each l → foldl op a l ≡ op a (folded l)
   from-folded a [] i each = sym (laws .neutral-right a i)
   from-folded a (x ∷ l) i each =
       let j : In x = each-first each in
@@ -39,7 +39,7 @@ module _ {A : Type 0} {In : A → Type 0} {op : A → A → A} {none : A} (laws 
       ∙ ap (op a) (sym (from-folded x l j rest))
       ∙ ap (λ (y : A). op a (foldl op y l)) (sym (laws .neutral-left x j))
 
-  pub first-folded : (a : A) (l : List A) → Each (a ∷ l) → folded (a ∷ l) ≡ op a (folded l)
+  first-folded : (a : A) (l : List A) → Each (a ∷ l) → folded (a ∷ l) ≡ op a (folded l)
   first-folded a l each =
       let i : In a = each-first each in
       ap (λ (y : A). foldl op y l) (laws .neutral-left a i) ∙ from-folded a l i (each-rest each)
@@ -49,25 +49,29 @@ module _ {A : Type 0} {In : A → Type 0} {op : A → A → A} {none : A} (laws 
   abbrev pub NeutralOrIn : A → List A → Type 0
   NeutralOrIn x l = (x ≡ none) ⊎ List·Memᴰ x l
 
-  pub once-more : (x : A) (l : List A) → Each l → NeutralOrIn x l → op x (folded l) ≡ folded l
-  once-more x l each w = ⊎-elim (λ e. ap (λ (y : A). op y (folded l)) e ∙ laws .neutral-left (folded l) (folded-in l each)) (member l each) w
-    where
-      member : (l : List A) → Each l → List·Memᴰ x l → op x (folded l) ≡ folded l
-      member [] each m = absurd (List·Memᴰ·not-nil m)
-      member (a ∷ l) each m =
-          let i : In a = each-first each in
-          let j : In x = each x m in
-          let rest : Each l = each-rest each in
-          let f : In (folded l) = folded-in l rest in
-          ap (op x) (first-folded a l each)
-          ∙ ⊎-elim
-          (λ e. ap (λ (y : A). op y (op a (folded l))) e ∙ sym (laws .associative a a (folded l) i i f) ∙ ap (λ (y : A). op y (folded l)) (laws .idempotent a i))
-          (λ n. sym (laws .associative x a (folded l) j i f)
-          ∙ ap (λ (y : A). op y (folded l)) (laws .commutative x a j i)
-          ∙ laws .associative a x (folded l) i j f
-          ∙ ap (op a) (member l rest n))
-          (List·Memᴰ·cases-cons m)
-          ∙ sym (first-folded a l each)
+  -- a member at the front or further on
+  again-first : (a : A) (l : List A) → In a → Each l → op a (op a (folded l)) ≡ op a (folded l)
+  again-first a l i each = sym (laws .associative a a (folded l) i i (folded-in l each)) ∙ ap (λ (y : A). op y (folded l)) (laws .idempotent a i)
+
+  past-first : (x a : A) (l : List A) → In x → In a → Each l → op x (op a (folded l)) ≡ op a (op x (folded l))
+  past-first x a l j i each =
+      let f : In (folded l) = folded-in l each in
+      sym (laws .associative x a (folded l) j i f) ∙ ap (λ (y : A). op y (folded l)) (laws .commutative x a j i) ∙ laws .associative a x (folded l) i j f
+
+  member-again : (x : A) (l : List A) → Each l → List·Memᴰ x l → op x (folded l) ≡ folded l
+  member-again x [] each m = absurd (List·Memᴰ·not-nil m)
+  member-again x (a ∷ l) each m =
+      let rest : Each l = each-rest each in
+      ap (op x) (first-folded a l each)
+      ∙ ⊎-elim
+      (λ e. ap (λ (y : A). op y (op a (folded l))) e ∙ again-first a l (each-first each) rest)
+      (λ n. past-first x a l (each x m) (each-first each) rest ∙ ap (op a) (member-again x l rest n))
+      (List·Memᴰ·cases-cons m)
+      ∙ sym (first-folded a l each)
+
+  once-more : (x : A) (l : List A) → Each l → NeutralOrIn x l → op x (folded l) ≡ folded l
+  once-more x l each w =
+      ⊎-elim (λ e. ap (λ (y : A). op y (folded l)) e ∙ laws .neutral-left (folded l) (folded-in l each)) (member-again x l each) w
 
   -- so a list that holds nothing else adds nothing
   adds-nothing : (k l : List A) → Each k → Each l → ((x : A) → List·Memᴰ x k → NeutralOrIn x l) → op (folded k) (folded l) ≡ folded l

@@ -1,5 +1,5 @@
 -- A list in another order is what the kit's library calls a permutation, and holds the same.
-use mathlib.Core.Path.{_≡_, refl, sym, subst}
+use mathlib.Core.Path.{sym, subst}
 use mathlib.Core.List.{List, [], _∷_, _++_, List·Memᴰ, List·Memᴰ·head, List·Memᴰ·tail, List·Memᴰ·cases-cons, List·Memᴰ·append-cases, Memᴰ·append-left, Memᴰ·append-right}
 use mathlib.Core.List.{Perm, Perm·nil, Perm·cons, Perm·symm, Perm·trans, Perm·cons-inv, Perm·nil-eq, Perm·subset, perm-middle, append-of-mem, mem-cons-self}
 use mathlib.Core.Logic.{⊎-elim, ∥∥₁-elim, ∥∥₁-map, ∥∥₁-prop}
