@@ -1,24 +1,30 @@
 -- On every board the choice is the same, in whatever order and grouping it compares; and so are the answers, the next states and the bytes of its calls, and the state after any calls.
 use mathlib.Core.Path.{_≡_, refl, sym, ap, _∙_, subst}
-use mathlib.Core.List.{List, [], _∷_, _++_, append-nil, List·Memᴰ·not-nil}
-use Prim.Native.Nat.{ℕ}
-use Rattle.choice.specs.Choose.{betterOf, bestOf}
+use mathlib.Core.List.{List, [], _∷_, _++_, List·Memᴰ}
+use Prim.Native.Nat.{ℕ, zero, suc, _+_, _-_, _<_, _≤_}
+use native.Mathlib.Omega.{arith}
+use Rattle.choice.specs.Choose.{candidateOf, betterOf, bestOf}
 use Rattle.choice.specs.Permutation.{Permutation}
 use Rattle.choice.specs.Compare.{Comparison, comparedIn}
 use Rattle.choice.specs.declared.Candidate.{Candidate}
 use Rattle.choice.specs.declared.Candidate.the-variants.{Nothing}
-use Rattle.bridge.specs.State.{Lawful}
+use Rattle.bridge.specs.Table.{mostPorts}
+use Rattle.bridge.specs.State.{TypedSetup, Lawful}
+use Rattle.bridge.specs.Setup.{setupOf}
 use Rattle.bridge.specs.Receive.{receiveBy, receiveOf}
 use Rattle.bridge.specs.Chosen.{chosenOf}
 use Rattle.bridge.specs.Send.{sendBy, sendBytesBy, sendOf, sendBytes}
 use Rattle.bridge.specs.Demands.{candidates, Call, links, own-clock, receive, age, send, after, run}
-use Rattle.bridge.specs.Board.{candidateUnder, allNumbers, GoesThrough, chosenOn, afterOn, runOn}
+use Rattle.bridge.specs.Board.{candidateUnder, numbersFrom, numbersTo, GoesThrough, chosenOn, afterOn, runOn}
+use Rattle.bridge.specs.declared.Setup.{Setup}
 use Rattle.bridge.specs.declared.Bridge.{Bridge}
 use Rattle.bridge.specs.declared.Done.{Done}
-use Rattle.choice.proofs.PermutationLaws.{members-back}
+use Rattle.choice.proofs.PermutationLaws.{permutation-append, members-back}
 use Rattle.choice.proofs.CompareLaws.{best-permuted, best-parts, any-way}
-use Rattle.bridge.proofs.Keeps.{after-lawful}
-use Rattle.bridge.proofs.Numbered.{candidates-numbered, numbered-fits, candidates-fit}
+use Rattle.bridge.proofs.Keeps.{setup-lawful, run-lawful}
+use Rattle.bridge.proofs.Records.{setup-ports}
+use Rattle.bridge.proofs.Numbered.{numbers-parts, numbers-from, numbers-below, candidates-numbered, numbered-fits, candidates-fit}
+use Rattle.bridge.proofs.Beyond.{beyond-silent}
 
 -- the choice is the best of the candidates
 chosen-best : (b : Bridge) → bestOf Nothing (candidates b) ≡ chosenOf b
@@ -40,7 +46,7 @@ module _ (b : Bridge) (lawful : Lawful b) where
     -- Chosen
     pub chosen-same : chosenOn board b ≡ chosenOf b
     chosen-same =
-        any-way (candidateUnder b) allNumbers board (numbered-fits b lawful) goes
+        any-way (candidateUnder b) (numbersTo mostPorts) board (numbered-fits b lawful) goes
         ∙ ap (bestOf Nothing) (sym (candidates-numbered b (lawful .records)))
         ∙ chosen-best b
 
@@ -58,25 +64,64 @@ module _ (b : Bridge) (lawful : Lawful b) where
     unfolding sendBytes
     bytes-same port t out = ap (λ (c : Candidate). sendBytesBy c b port t out) chosen-same
 
--- ---- on a board that always compares all numbers
+    -- and the state after any call
+    after-same : (c : Call) → afterOn board b c ≡ after b c
+    after-same (links mask) = refl
+    after-same (own-clock count byte seconds fraction at) = refl
+    after-same (receive port frame bytes arrival) = ap (λ (d : Done). d .next) (receive-same port frame arrival)
+    after-same (age at) = refl
+    after-same (send port t room) = ap (λ (d : Done). d .next) (send-same port t room)
 
-module _ (board : Comparison ℕ) (all : Permutation allNumbers (comparedIn board)) where
-  pub goes-through : (b : Bridge) → GoesThrough board b
-  goes-through b = record {
-    left-out = [];
-    once = subst (Permutation allNumbers) (sym (append-nil (comparedIn board))) all;
-    none = λ number m. absurd (List·Memᴰ·not-nil m);
+-- ---- from Setup on, on a board that compares the own clock and the station's ports, each once
+
+-- one call more
+run-more : (b : Bridge) (cs : List Call) (c : Call) → run b (cs ++ (c ∷ [])) ≡ after (run b cs) c
+unfolding run
+run-more b [] c = refl
+run-more b (x ∷ cs) c = run-more (after b x) cs c
+
+module _ (s : Setup) (board : Comparison ℕ) (each : Permutation (numbersTo (setupOf s .next .setup .n)) (comparedIn board)) where
+  abbrev fresh : Bridge
+  fresh = setupOf s .next
+
+  -- the numbers beyond its ports
+  abbrev beyond : List ℕ
+  beyond = numbersFrom (1 + fresh .setup .n) (mostPorts - fresh .setup .n)
+
+  to-eight : numbersTo (fresh .setup .n) ++ beyond ≡ numbersTo mostPorts
+  to-eight =
+      let n = fresh .setup .n in
+      let all : n + (mostPorts - n) ≡ mostPorts = omega (arith, setup-ports s) in
+      λ i. 0 ∷ (sym (numbers-parts n 1 (mostPorts - n)) ∙ ap (numbersFrom 1) all) i
+
+  none-beyond : (cs : List Call) (number : ℕ) → List·Memᴰ number beyond → candidateUnder (run fresh cs) number ≡ Nothing
+  unfolding candidateUnder candidateOf
+  none-beyond cs zero m = absurd (omega (arith, numbers-from _ _ m))
+  none-beyond cs (suc i) m =
+      let n = fresh .setup .n in
+      let above : n ≤ i = omega (arith, numbers-from (1 + n) (mostPorts - n) m) in
+      let below : i < mostPorts = omega (arith, numbers-below (1 + n) (mostPorts - n) m, setup-ports s) in
+      ap (candidateOf (suc i)) (beyond-silent i s cs above below)
+
+  pub goes-through : (cs : List Call) → GoesThrough board (run fresh cs)
+  goes-through cs = record {
+    left-out = beyond;
+    once = subst (λ (l : List ℕ). Permutation l (comparedIn board ++ beyond)) to-eight (permutation-append beyond each);
+    none = none-beyond cs;
   }
 
-  after-same : (b : Bridge) (c : Call) → Lawful b → afterOn board b c ≡ after b c
-  after-same b (links mask) h = refl
-  after-same b (own-clock count byte seconds fraction at) h = refl
-  after-same b (receive port frame bytes arrival) h = ap (λ (d : Done). d .next) (receive-same b h board (goes-through b) port frame arrival)
-  after-same b (age at) h = refl
-  after-same b (send port t room) h = ap (λ (d : Done). d .next) (send-same b h board (goes-through b) port t room)
+  -- after any calls the state is the same
+  module _ (typed : TypedSetup s) where
+    further : (cs more : List Call) → runOn board (run fresh cs) more ≡ run (run fresh cs) more
+    unfolding run runOn
+    further cs [] = refl
+    further cs (c ∷ more) =
+        let b = run fresh cs in
+        let lawful = run-lawful fresh cs (setup-lawful s typed) in
+        ap (λ (x : Bridge). runOn board x more) (after-same b lawful board (goes-through cs) c ∙ sym (run-more fresh cs c))
+        ∙ further (cs ++ (c ∷ [])) more
+        ∙ ap (λ (x : Bridge). run x more) (run-more fresh cs c)
 
-  -- after any calls on a lawful state the state is the same
-  pub run-same : (b : Bridge) (cs : List Call) → Lawful b → runOn board b cs ≡ run b cs
-  unfolding run runOn
-  run-same b [] h = refl
-  run-same b (c ∷ cs) h = ap (λ (next : Bridge). runOn board next cs) (after-same b c h) ∙ run-same (after b c) cs (after-lawful b c h)
+    pub run-same : (cs : List Call) → runOn board fresh cs ≡ run fresh cs
+    unfolding run
+    run-same cs = further [] cs

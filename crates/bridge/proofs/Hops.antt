@@ -63,7 +63,7 @@ use Rattle.bridge.proofs.Least.{chosen-announced}
 -- ---- a frame that is taken
 
 -- a record that holds a frame, which has another hop than the last: the frame's clock is announced, at the hop that is held where the chosen one is `chosen`
-record Holds (f : Fields) (at : LocalTime) (port : Port) : Type 0 where
+pub record Holds (f : Fields) (at : LocalTime) (port : Port) : Type 0 where
   pub chosen : ℕ
   pub not-last : f .hop ≡ lastHop → ⊥
   pub announced : port .announcement ≡ Announced (f .precedence) (hopOf (f .hop) chosen) at
@@ -76,7 +76,7 @@ holds setting chosen f at port =
     (λ count p delay other _ _. record { chosen = chosen; not-last = other; announced = refl })
 
 -- what a receive that answers 0 did: the frame was read, and the port's record holds it
-record Took (b : Bridge) (port : ℕ) (frame : List ℕ) (arrival : ℕ) (next : Bridge) : Type 0 where
+pub record Took (b : Bridge) (port : ℕ) (frame : List ℕ) (arrival : ℕ) (next : Bridge) : Type 0 where
   pub fields : Fields
   pub read : readOf frame ≡ Readings.Frame fields
   pub ready : Ready (b .setup .n) port arrival
@@ -92,7 +92,7 @@ refused-by-bytes s k q z =
     let clash : _≡_ {A = ℕ} 0 1 = cc in
     absurd (omega arith)
 
-took : (b : Bridge) (port : ℕ) (frame : List ℕ) (arrival : ℕ) → receiveOf b port frame arrival .answer ≡ 0 → Took b port frame arrival (receiveOf b port frame arrival .next)
+pub took : (b : Bridge) (port : ℕ) (frame : List ℕ) (arrival : ℕ) → receiveOf b port frame arrival .answer ≡ 0 → Took b port frame arrival (receiveOf b port frame arrival .next)
 unfolding receiveOf receiveFieldsOf
 took b port frame arrival =
     if-when (λ (d : Done). d .answer ≡ 0 → Took b port frame arrival (d .next)) (eqb (portRefusal (b .setup .n) (b .links) port arrival) 0)
@@ -153,11 +153,11 @@ sent-last-hop-refused b port t out there at arrival {p} {n} h c e clear =
 -- ---- what each call leaves of an announcement
 
 -- what a port announces is the frame that it took last, or nothing
-abbrev Announces : List ℕ → Announcement → Type 0
+abbrev pub Announces : List ℕ → Announcement → Type 0
 Announces last announcement = (announcement ≡ Silent) ⊎ HeldAbove last announcement
 
 -- the same of the port at index i in a state
-abbrev AnnouncesAt : List ℕ → Bridge → ℕ → Type 0
+abbrev pub AnnouncesAt : List ℕ → Bridge → ℕ → Type 0
 AnnouncesAt last b i = Announces last (portAt (b .ports) i .announcement)
 
 abbrev announcementOf : Port → Announcement
@@ -233,7 +233,7 @@ module _ (b : Bridge) (i : ℕ) (last : List ℕ) (h : i < length (b .ports)) (u
 -- ---- from Setup on
 
 -- after any calls, what a port announces is the frame that it took last, held above that frame's hop
-run-announces : (s : Setup) (cs : List Call) (i : ℕ) → i < mostPorts → AnnouncesAt (lastTaken i (setupOf s .next) cs) (run (setupOf s .next) cs) i
+pub run-announces : (s : Setup) (cs : List Call) (i : ℕ) → i < mostPorts → AnnouncesAt (lastTaken i (setupOf s .next) cs) (run (setupOf s .next) cs) i
 run-announces s cs i h =
     record-run i (takenBy i) (λ (last : List ℕ) (p : Port). Announces last (p .announcement)) (λ b c last l u. after-announces b i last l u c) s cs [] h (inl refl)
 

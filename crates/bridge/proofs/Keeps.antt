@@ -160,7 +160,7 @@ send-lawful b port t room h =
 
 -- ---- calls in a row
 
-pub after-lawful : (b : Bridge) (c : Call) → Lawful b → Lawful (after b c)
+after-lawful : (b : Bridge) (c : Call) → Lawful b → Lawful (after b c)
 after-lawful b (links mask) h = links-lawful b mask h
 after-lawful b (own-clock count byte seconds fraction at) h = own-lawful b count seconds fraction at byte h
 after-lawful b (receive port frame bytes arrival) h = receive-lawful b port frame arrival bytes h

@@ -16,6 +16,7 @@ pub mod Line
 pub mod Records
 pub mod Counts
 pub mod Hops
+pub mod Beyond
 pub mod Boards
 pub mod Unique
 pub mod Exact

@@ -49,7 +49,7 @@ each-record f ports i h = each-at f 0 i ports emptyPort h ∙ ap (λ (k : ℕ). 
 -- ---- the setup, and how many records there are
 
 -- a state has the setup of b, and as many records
-abbrev Alike : Bridge → Bridge → Type 0
+abbrev pub Alike : Bridge → Bridge → Type 0
 Alike b x = (x .setup ≡ b .setup) × (length (x .ports) ≡ length (b .ports))
 
 module _ (b : Bridge) where
@@ -63,7 +63,7 @@ module _ (b : Bridge) where
       by (Readings.Frame f) = (refl, length-set (b .ports) (port - 1) _)
 
   -- every call leaves them
-  after-alike : (c : Call) → Alike b (after b c)
+  pub after-alike : (c : Call) → Alike b (after b c)
   unfolding linksOf ownClockOf ageOf sendOf
   after-alike (links mask) =
       if-when (λ (d : Linked). Alike b (d .next)) (maskBeyond (b .setup .n) mask) (λ _. (refl, refl))
@@ -96,7 +96,7 @@ setup-length : (s : Setup) → length (setupOf s .next .ports) ≡ mostPorts
 unfolding setupOf
 setup-length s = if-when (λ (d : Done). length (d .next .ports) ≡ mostPorts) (setupFits s) (λ _. refl) (λ _. refl)
 
-setup-ports : (s : Setup) → setupOf s .next .setup .n ≤ mostPorts
+pub setup-ports : (s : Setup) → setupOf s .next .setup .n ≤ mostPorts
 unfolding setupOf setupFits
 setup-ports s =
     if-when (λ (d : Done). d .next .setup .n ≤ mostPorts) (setupFits s)

@@ -2,9 +2,9 @@
 use mathlib.Core.List.{List, [], _∷_}
 use Prim.Native.Nat.{ℕ, zero, suc}
 use Rattle.choice.specs.Choose.{candidateOf, ownCandidate}
-use Rattle.choice.specs.Compare.{Comparison, winnerOf, ComparesEach}
+use Rattle.choice.specs.Compare.{Comparison, outcomeOf, ComparesEach}
 use Rattle.choice.specs.declared.Candidate.{Candidate}
-use Rattle.bridge.specs.Table.{portAt}
+use Rattle.bridge.specs.Table.{portAt, mostPorts}
 use Rattle.bridge.specs.Receive.{receiveBy}
 use Rattle.bridge.specs.Send.{sendBy}
 use Rattle.bridge.specs.Demands.{Call, links, own-clock, receive, age, send, after}
@@ -15,16 +15,22 @@ unfoldable pub candidateUnder : Bridge → ℕ → Candidate
 candidateUnder b zero = ownCandidate (b .setup .capable) (b .setup .own)
 candidateUnder b (suc i) = candidateOf (suc i) (portAt (b .ports) i .announcement)
 
-abbrev pub allNumbers : List ℕ
-allNumbers = 0 ∷ 1 ∷ 2 ∷ 3 ∷ 4 ∷ 5 ∷ 6 ∷ 7 ∷ 8 ∷ []
+-- so many numbers, from k on
+unfoldable pub numbersFrom : ℕ → ℕ → List ℕ
+numbersFrom k zero = []
+numbersFrom k (suc n) = k ∷ numbersFrom (suc k) n
 
--- a board is the way in which it compares these numbers; in a state it may leave out those that have no candidate
+-- the own clock's number and those of n ports
+abbrev pub numbersTo : ℕ → List ℕ
+numbersTo n = 0 ∷ numbersFrom 1 n
+
+-- a board is the way in which it compares these numbers, each once; in a state it may leave out those that have no candidate
 abbrev pub GoesThrough : Comparison ℕ → Bridge → Type 0
-GoesThrough board b = ComparesEach (candidateUnder b) allNumbers board
+GoesThrough board b = ComparesEach (candidateUnder b) (numbersTo mostPorts) board
 
 -- what it chooses
 abbrev pub chosenOn : Comparison ℕ → Bridge → Candidate
-chosenOn board b = winnerOf (candidateUnder b) board
+chosenOn board b = outcomeOf (candidateUnder b) board
 
 -- the state after a call, and after calls in a row
 abbrev pub afterOn : Comparison ℕ → Bridge → Call → Bridge

@@ -5,7 +5,7 @@ use mathlib.Core.Logic.{_⊎_, inl, inr, ⊎-elim}
 use Rattle.choice.specs.Choose.{betterOf, bestOf}
 use Rattle.choice.specs.Rank.{CandidateFits}
 use Rattle.choice.specs.Permutation.{Permutation}
-use Rattle.choice.specs.Compare.{Comparison, single, winners, comparedIn, winnerOf, ComparesEach}
+use Rattle.choice.specs.Compare.{Comparison, single, winners, comparedIn, outcomeOf, ComparesEach}
 use Rattle.choice.specs.declared.Candidate.{Candidate}
 use Rattle.choice.specs.declared.Candidate.the-variants.{Nothing}
 use Rattle.choice.proofs.MonoidLaws.{Each, same-folded, parts-folded}
@@ -46,14 +46,14 @@ module _ {A : Type 0} (candidate : A → Candidate) where
   all-fit l fits x m = let (a, n, e) = Memᴰ·of-map candidate l m in subst CandidateFits e (fits a n)
 
   -- who wins is the best of those that are compared, one after the other
-  pub winner-best : (way : Comparison A) → EachFits (comparedIn way) → winnerOf candidate way ≡ bestOf Nothing (map candidate (comparedIn way))
-  unfolding winnerOf comparedIn bestOf betterOf
-  winner-best (single a) fits = refl
-  winner-best (winners x y) fits =
+  pub outcome-best : (way : Comparison A) → EachFits (comparedIn way) → outcomeOf candidate way ≡ bestOf Nothing (map candidate (comparedIn way))
+  unfolding outcomeOf comparedIn bestOf betterOf
+  outcome-best (single a) fits = refl
+  outcome-best (winners x y) fits =
       let left : EachFits (comparedIn x) = λ a m. fits a (Memᴰ·append-left (comparedIn y) m) in
       let right : EachFits (comparedIn y) = λ a m. fits a (Memᴰ·append-right (comparedIn x) m) in
       let whole = map-append candidate (comparedIn x) (comparedIn y) in
-      (λ i. betterOf (winner-best x left i) (winner-best y right i))
+      (λ i. betterOf (outcome-best x left i) (outcome-best y right i))
       ∙ best-parts (map candidate (comparedIn x)) (map candidate (comparedIn y)) (subst AllFit whole (all-fit (comparedIn x ++ comparedIn y) fits))
       ∙ ap (bestOf Nothing) (sym whole)
 
@@ -78,7 +78,7 @@ module _ {A : Type 0} (candidate : A → Candidate) where
         (List·Memᴰ·append-cases (comparedIn way) (members-there (each .once) n))
 
     -- every way to compare each of a list once comes to the best of the list
-    pub any-way : winnerOf candidate way ≡ bestOf Nothing (map candidate all)
+    pub any-way : outcomeOf candidate way ≡ bestOf Nothing (map candidate all)
     any-way =
-        winner-best way compared-fits
+        outcome-best way compared-fits
         ∙ best-same (map candidate (comparedIn way)) (map candidate all) (all-fit (comparedIn way) compared-fits) (all-fit all fits) compared-all all-compared

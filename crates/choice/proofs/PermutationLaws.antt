@@ -1,6 +1,6 @@
--- A list in another order is what the kit's library calls a permutation, and holds the same.
+-- A list in another order is what the kit's library calls a permutation, with the same behind both it is one, and it holds the same.
 use mathlib.Core.Path.{sym, subst}
-use mathlib.Core.List.{List, [], _∷_, _++_, List·Memᴰ, List·Memᴰ·head, List·Memᴰ·tail, List·Memᴰ·cases-cons, List·Memᴰ·append-cases, Memᴰ·append-left, Memᴰ·append-right}
+use mathlib.Core.List.{List, [], _∷_, _++_, append-assoc, List·Memᴰ, List·Memᴰ·head, List·Memᴰ·tail, List·Memᴰ·cases-cons, List·Memᴰ·append-cases, Memᴰ·append-left, Memᴰ·append-right}
 use mathlib.Core.List.{Perm, Perm·nil, Perm·cons, Perm·symm, Perm·trans, Perm·cons-inv, Perm·nil-eq, Perm·subset, perm-middle, append-of-mem, mem-cons-self}
 use mathlib.Core.Logic.{⊎-elim, ∥∥₁-elim, ∥∥₁-map, ∥∥₁-prop}
 use Rattle.choice.specs.Permutation.{Permutation, empty, placed}
@@ -19,6 +19,15 @@ module _ {A : Type 0} where
       (λ (before, after, e).
       let around : Perm l (before ++ after) = Perm·cons-inv (Perm·trans (subst (Perm (a ∷ l)) e p) (perm-middle before after)) in
       ∥∥₁-map (perm-permutation l (before ++ after) around) (λ q. subst (Permutation (a ∷ l)) (sym e) (placed a l before after q)))
+
+  -- ---- with the same behind both
+
+  pub permutation-append : {l k : List A} (t : List A) → Permutation l k → Permutation (l ++ t) (k ++ t)
+  permutation-append [] empty = empty
+  permutation-append (x ∷ t) empty = placed x t [] t (permutation-append t empty)
+  permutation-append t (placed a l before after p) =
+      subst (Permutation (a ∷ (l ++ t))) (sym (append-assoc before (a ∷ after) t))
+      (placed a (l ++ t) before (after ++ t) (subst (Permutation (l ++ t)) (append-assoc before after t) (permutation-append t p)))
 
   -- ---- the same members
 

@@ -27,9 +27,9 @@ comparedIn (single a) = a ∷ []
 comparedIn (winners x y) = comparedIn x ++ comparedIn y
 
 -- who wins, each being the candidate that `candidate` gives
-unfoldable pub winnerOf : {A : Type 0} → (A → Candidate) → Comparison A → Candidate
-winnerOf candidate (single a) = candidate a
-winnerOf candidate (winners x y) = betterOf (winnerOf candidate x) (winnerOf candidate y)
+unfoldable pub outcomeOf : {A : Type 0} → (A → Candidate) → Comparison A → Candidate
+outcomeOf candidate (single a) = candidate a
+outcomeOf candidate (winners x y) = betterOf (outcomeOf candidate x) (outcomeOf candidate y)
 
 -- each of a list is compared once, but for such as are no candidate, which may be left out
 pub record ComparesEach {A : Type 0} (candidate : A → Candidate) (all : List A) (way : Comparison A) : Type 0 where
