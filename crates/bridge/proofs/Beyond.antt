@@ -17,6 +17,7 @@ use Rattle.bridge.proofs.Records.{after-alike}
 use Rattle.bridge.proofs.Hops.{took, Announces, run-announces}
 
 module _ (i : ℕ) where
+  -- no call takes a frame there
   taken-not : (b : Bridge) (c : Call) → b .setup .n ≤ i → takenBy i b c [] ≡ []
   taken-not b (links mask) l = refl
   taken-not b (own-clock count byte seconds fraction at) l = refl
@@ -29,6 +30,7 @@ module _ (i : ℕ) where
   taken-not b (age at) l = refl
   taken-not b (send port t room) l = refl
 
+  -- nor do any calls in a row
   taken-never : (b : Bridge) (cs : List Call) → b .setup .n ≤ i → along (takenBy i) b cs [] ≡ []
   unfolding along
   taken-never b [] l = refl
@@ -36,6 +38,7 @@ module _ (i : ℕ) where
       ap (along (takenBy i) (after b c) cs) (taken-not b c l)
       ∙ taken-never (after b c) cs (subst (λ (s : Setup). s .n ≤ i) (sym (after-alike b c .0)) l)
 
+  -- so it never announces one
   pub beyond-silent : (s : Setup) (cs : List Call) → setupOf s .next .setup .n ≤ i → i < mostPorts → portAt (run (setupOf s .next) cs .ports) i .announcement ≡ Silent
   unfolding readOf readRefusal
   beyond-silent s cs l h =

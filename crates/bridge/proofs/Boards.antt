@@ -88,12 +88,14 @@ module _ (s : Setup) (board : Comparison ℕ) (each : Permutation (numbersTo (se
   abbrev beyond : List ℕ
   beyond = numbersFrom (1 + fresh .setup .n) (mostPorts - fresh .setup .n)
 
+  -- with these, all eight
   to-eight : numbersTo (fresh .setup .n) ++ beyond ≡ numbersTo mostPorts
   to-eight =
       let n = fresh .setup .n in
       let all : n + (mostPorts - n) ≡ mostPorts = omega (arith, setup-ports s) in
       λ i. 0 ∷ (sym (numbers-parts n 1 (mostPorts - n)) ∙ ap (numbersFrom 1) all) i
 
+  -- none of them has a candidate
   none-beyond : (cs : List Call) (number : ℕ) → List·Memᴰ number beyond → candidateUnder (run fresh cs) number ≡ Nothing
   unfolding candidateUnder candidateOf
   none-beyond cs zero m = absurd (omega (arith, numbers-from _ _ m))
@@ -103,6 +105,7 @@ module _ (s : Setup) (board : Comparison ℕ) (each : Permutation (numbersTo (se
       let below : i < mostPorts = omega (arith, numbers-below (1 + n) (mostPorts - n) m, setup-ports s) in
       ap (candidateOf (suc i)) (beyond-silent i s cs above below)
 
+  -- so after any calls the board goes through all candidates
   pub goes-through : (cs : List Call) → GoesThrough board (run fresh cs)
   goes-through cs = record {
     left-out = beyond;
@@ -110,7 +113,7 @@ module _ (s : Setup) (board : Comparison ℕ) (each : Permutation (numbersTo (se
     none = none-beyond cs;
   }
 
-  -- after any calls the state is the same
+  -- and the state is the same
   module _ (typed : TypedSetup s) where
     further : (cs more : List Call) → runOn board (run fresh cs) more ≡ run (run fresh cs) more
     unfolding run runOn

@@ -73,6 +73,7 @@ better-commutative Nothing (Clock q k j) f g = refl
 better-commutative (Clock p h i) Nothing f g = refl
 better-commutative (Clock p h i) (Clock q k j) f g = lesser-commutative (rankOf p h i) (rankOf q k j) (rank-unique p h i q k j f g)
 
+-- in a chain of comparisons the first of those with the least rank wins, however it is grouped
 better-associative : (a b c : Candidate) → betterOf (betterOf a b) c ≡ betterOf a (betterOf b c)
 unfolding betterOf
 better-associative Nothing b c = refl

@@ -60,12 +60,14 @@ module _ {A : Type 0} (candidate : A → Candidate) where
   -- ---- both
 
   module _ (all : List A) (way : Comparison A) (fits : EachFits all) (each : ComparesEach candidate all way) where
+    -- what is compared is of the list
     from-all : {a : A} → List·Memᴰ a (comparedIn way) → List·Memᴰ a all
     from-all m = members-back (each .once) (Memᴰ·append-left (each .left-out) m)
 
     compared-fits : EachFits (comparedIn way)
     compared-fits a m = fits a (from-all m)
 
+    -- each candidate of one is none, or one of the other
     compared-all : (x : Candidate) → List·Memᴰ x (map candidate (comparedIn way)) → (x ≡ Nothing) ⊎ List·Memᴰ x (map candidate all)
     compared-all x m = let (a, n, e) = Memᴰ·of-map candidate (comparedIn way) m in inr (Memᴰ·cast (sym e) (Memᴰ·map candidate (from-all n)))
 
