@@ -9,7 +9,7 @@ use Rattle.choice.specs.declared.Announcement.the-variants.{Silent}
 use Rattle.frame.specs.Read.{readRefusal, readOf}
 use Rattle.bridge.specs.Table.{portAt, mostPorts}
 use Rattle.bridge.specs.Setup.{setupOf}
-use Rattle.bridge.specs.Demands.{Call, links, own-clock, receive, age, send, after, run, along, takenBy, lastTaken}
+use Rattle.bridge.specs.Demands.{Call, links, own-clock, receive, age, send, after, run, along, takenBy}
 use Rattle.bridge.specs.declared.Setup.{Setup}
 use Rattle.bridge.specs.declared.Bridge.{Bridge}
 use Rattle.numbers.proofs.Branches.{if-when}

@@ -1,19 +1,27 @@
--- On every board the choice is the same, in whatever order and grouping it compares; and so are the answers, the next states and the bytes of its calls, and the state after any calls.
+-- A call goes by the choice that it is given. On every board that is the same, in whatever order and grouping it compares; and so are the answers, the next states and the bytes of its calls, and the state after any calls.
 use mathlib.Core.Path.{_≡_, refl, sym, ap, _∙_, subst}
 use mathlib.Core.List.{List, [], _∷_, _++_, List·Memᴰ}
 use Prim.Native.Nat.{ℕ, zero, suc, _+_, _-_, _<_, _≤_}
 use native.Mathlib.Omega.{arith}
-use Rattle.choice.specs.Choose.{candidateOf, betterOf, bestOf}
+use lib.ListN.{length}
+use Rattle.choice.specs.Choose.{candidateOf, betterOf, bestOf, chosenHop}
 use Rattle.choice.specs.Permutation.{Permutation}
 use Rattle.choice.specs.Compare.{Comparison, comparedIn}
 use Rattle.choice.specs.declared.Candidate.{Candidate}
 use Rattle.choice.specs.declared.Candidate.the-variants.{Nothing}
-use Rattle.bridge.specs.Table.{mostPorts}
-use Rattle.bridge.specs.State.{TypedSetup, Lawful}
+use Rattle.frame.specs.Read.{readOf}
+use Rattle.frame.specs.declared.Fields.{Fields}
+use Rattle.frame.specs.declared.Reading.the-variants.{Frame}
+use Rattle.port.specs.Receive.{receivedOf}
+use Rattle.port.specs.Send.{sendingOf, sendingDone, sendingBytes}
+use Rattle.port.specs.declared.Sending.{Sending}
+use Rattle.bridge.specs.Table.{portAt, mostPorts, samplesOfChoice}
+use Rattle.bridge.specs.Arguments.{portRefusal, sendRefusal}
+use Rattle.bridge.specs.State.{TypedSetup, Lawful, storesPort}
 use Rattle.bridge.specs.Setup.{setupOf}
-use Rattle.bridge.specs.Receive.{receiveBy, receiveOf}
+use Rattle.bridge.specs.Receive.{settingAt, receiveFieldsOf, receiveBy, receiveOf}
 use Rattle.bridge.specs.Chosen.{chosenOf}
-use Rattle.bridge.specs.Send.{sendBy, sendBytesBy, sendOf, sendBytes}
+use Rattle.bridge.specs.Send.{sendingAt, sendBy, sendBytesBy, sendOf, sendBytes}
 use Rattle.bridge.specs.Demands.{candidates, Call, links, own-clock, receive, age, send, after, run}
 use Rattle.bridge.specs.Board.{candidateUnder, numbersFrom, numbersTo, GoesThrough, chosenOn, afterOn, runOn}
 use Rattle.bridge.specs.declared.Setup.{Setup}
@@ -30,6 +38,30 @@ use Rattle.bridge.proofs.Beyond.{beyond-silent}
 chosen-best : (b : Bridge) → bestOf Nothing (candidates b) ≡ chosenOf b
 unfolding chosenOf bestOf betterOf
 chosen-best b = refl
+
+-- ---- what a call makes of the choice that it is given
+
+module _ (choice : Candidate) (b : Bridge) where
+  -- Receive: a frame that is read is held by this choice's H
+  pub received-by : (port : ℕ) (frame : List ℕ) (arrival : ℕ) (f : Fields) → portRefusal (b .setup .n) (b .links) port arrival ≡ 0 → readOf frame ≡ Frame f
+      → receiveBy choice b port frame arrival
+      ≡ storesPort b (port - 1) (receivedOf (settingAt b (port - 1)) (chosenHop choice) f (record { 0 = arrival }) (portAt (b .ports) (port - 1)))
+  unfolding receiveFieldsOf
+  received-by port frame arrival f clear read = rw (clear, read) refl
+
+  -- Send: what is sent is for this choice, by its samples
+  abbrev sent : ℕ → ℕ → Sending
+  sent i t = sendingOf choice (samplesOfChoice choice (b .clock) (b .ports)) (b .setup .sender) (record { 0 = t }) (portAt (b .ports) i)
+
+  pub sent-by : (port t room : ℕ) → sendRefusal (b .setup .n) (b .links) port t room ≡ 0
+      → sendBy choice b port t room ≡ storesPort b (port - 1) (sendingDone (sent (port - 1) t) (portAt (b .ports) (port - 1)))
+  unfolding sendingAt
+  sent-by port t room clear = rw clear refl
+
+  pub bytes-by : (port t : ℕ) (out : List ℕ) → sendRefusal (b .setup .n) (b .links) port t (length out) ≡ 0
+      → sendBytesBy choice b port t out ≡ sendingBytes (sent (port - 1) t) out
+  unfolding sendingAt
+  bytes-by port t out clear = rw clear refl
 
 -- ---- in a lawful state
 

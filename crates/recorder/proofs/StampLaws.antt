@@ -21,6 +21,7 @@ use Rattle.choice.specs.Compare.{Comparison}
 use Rattle.choice.specs.declared.Precedence.{Precedence}
 use Rattle.choice.specs.declared.Candidate.{Candidate}
 use Rattle.choice.specs.declared.Candidate.the-variants.{Nothing, Clock}
+use Rattle.bridge.specs.Table.{samplesOfChoice}
 use Rattle.bridge.specs.State.{Lawful}
 use Rattle.bridge.specs.Chosen.{chosenOf}
 use Rattle.bridge.specs.Send.{chosenSamples}
@@ -61,9 +62,13 @@ module _ (b : Bridge) (latch : ℕ) where
   unfolding stampOf
   stamp-off h = if-false _ _ _ (le-ltb _ _ h)
 
+  -- a stamp is by the choice that it is given, and by its samples
+  pub stamp-for : (choice : Candidate) → latch < circle → stampBy choice (samplesOfChoice choice (b .clock) (b .ports)) (latched latch) ≡ stampFor choice b latch
+  stamp-for choice h = if-true _ _ _ (lt-ltb _ _ h)
+
   pub stamp-by : {c : Candidate} → latch < circle → c ≡ chosenOf b → stampBy c (chosenSamples b) (latched latch) ≡ stampOf b latch
   unfolding stampOf
-  stamp-by h q = ap (λ (x : Candidate). stampBy x (chosenSamples b) (latched latch)) q ∙ if-true _ _ _ (lt-ltb _ _ h)
+  stamp-by h q = ap (λ (x : Candidate). stampBy x (chosenSamples b) (latched latch)) q ∙ stamp-for (chosenOf b) h
 
   -- it is the same on every board, in whatever order and grouping that compares
   pub stamp-same : Lawful b → (board : Comparison ℕ) → GoesThrough board b → stampFor (chosenOn board b) b latch ≡ stampOf b latch
