@@ -52,9 +52,9 @@ impl Order for Shuffled {
         paired(places, self.random, better).flatten()
     }
 
-    /// Draws the next number.
+    /// Draws a seed for the next choice, so that no two go by the same numbers.
     fn turn(&mut self) {
-        self.random.bits();
+        self.random = Random::new(self.random.bits());
     }
 }
 

@@ -25,11 +25,26 @@ same-digits a b {m} {x} {y} k l e =
     (sym (digits-div a k) ∙ ap (λ (n : ℕ). n / m) e ∙ digits-div b l, sym (digits-mod a k) ∙ ap (λ (n : ℕ). n % m) e ∙ digits-mod b l)
 
 module _ (p : Precedence) (h i : ℕ) (q : Precedence) (k j : ℕ) (f : CandidateFits (Clock p h i)) (g : CandidateFits (Clock q k j)) where
-  before-rank : Before p h i q k j → rankOf p h i < rankOf q k j
+  -- the lesser rank is the lesser in this order, and the other way round
+  pub before-rank : Before p h i q k j → rankOf p h i < rankOf q k j
   unfolding rankOf keyOf
   before-rank (inl less) = let (_, hf, nf) = f in omega arith
   before-rank (inr (e, inl less)) = let (_, hf, nf) = f in omega arith
   before-rank (inr (e, inr (s, less))) = omega arith
+
+  pub rank-before : rankOf p h i < rankOf q k j → Before p h i q k j
+  unfolding rankOf keyOf
+  rank-before lower = by (ltb (precedenceOf p) (precedenceOf q)) refl (ltb h k) refl where
+    by : (s : Bool) → ltb (precedenceOf p) (precedenceOf q) ≡ s → (t : Bool) → ltb h k ≡ t → Before p h i q k j
+    by true d t e = inl (ltb-true (precedenceOf p) (precedenceOf q) d)
+    by false d true e =
+        let (_, kf, jf) = g in
+        inr (omega (arith, lower, ltb-false (precedenceOf p) (precedenceOf q) d), inl (ltb-true h k e))
+    by false d false e =
+        let (_, kf, jf) = g in
+        let above = ltb-false (precedenceOf p) (precedenceOf q) d in
+        let farther = ltb-false h k e in
+        inr (omega (arith, lower, above), inr (omega (arith, lower, above, farther), omega (arith, lower, above, farther)))
 
   -- a rank names its clock
   pub rank-unique : rankOf p h i ≡ rankOf q k j → Clock p h i ≡ Clock q k j
