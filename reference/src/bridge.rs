@@ -5,7 +5,7 @@ use crate::answer::{
     OUT_OF_REACH, OUT_OF_SEQUENCE, TOO_FEW_SAMPLES,
 };
 use crate::frame::{self, Fields, FRAME_LEN, MAC_LEN};
-use crate::order::{InTurn, Order};
+use crate::order::{InTurn, Order, Places};
 use crate::port::{Heard, Port};
 use crate::rules::{self, DELAY_MOST, HOP_NONE, REACH_END, STAMPED_MOST};
 use crate::samples::{Sample, Samples};
@@ -54,7 +54,7 @@ pub struct OwnClock {
     pub samples: Samples,
 }
 
-/// The clock that the station follows.
+/// A candidate: a clock that the station can follow, the better one being less.
 #[derive(Clone, Copy, Debug, PartialEq, Eq, PartialOrd, Ord)]
 pub struct Chosen {
     pub precedence: u128,
@@ -101,6 +101,8 @@ pub trait Calls {
     fn age(&mut self, now: u64) -> Answer;
     /// Gives port and held hop of the clock that is followed.
     fn chosen(&mut self) -> Option<(u8, u8)>;
+    /// Gives the candidate at a place of the ranking, 0 for the clock that is followed.
+    fn ranked(&mut self, place: u8) -> Option<Chosen>;
     /// Writes the next frame of a port.
     fn send(&mut self, port: u8, departure: u64, output: &mut [u8]) -> Answer;
     /// Gives a clock's drift, if it has one to read.
@@ -166,20 +168,23 @@ impl<T: Table, O: Order> Bridge<T, O> {
 
     /// Gives the best of all clocks that can be followed.
     pub fn best(&self) -> Option<Chosen> {
-        let own = self.settings.capable.then_some(Chosen {
-            precedence: self.settings.precedence,
-            hop: 0,
-            port: OWN,
-        });
-        let heard = (1..).zip(self.ports.as_ref()).filter_map(|(port, kept)| {
-            let held = kept.record.announcement?;
-            Some(Chosen {
-                precedence: held.precedence,
-                hop: held.hop,
-                port,
-            })
-        });
+        let own = self.settings.candidate();
+        let heard = (1..)
+            .zip(self.ports.as_ref())
+            .filter_map(|(number, port)| Chosen::heard(number, port));
         self.order.best(own.into_iter().chain(heard))
+    }
+
+    /// Gives all clocks that can be followed from best to worst, after the places that have none.
+    pub fn sorted(&self) -> Places {
+        let mut places = Places::default();
+        places[usize::from(OWN)] = self.settings.candidate();
+        for (number, port) in (1..).zip(self.ports.as_ref()) {
+            places[usize::from(number)] = Chosen::heard(number, port);
+        }
+        self.order.mix(&mut places);
+        places.sort();
+        places
     }
 
     /// Gives the samples of the own clock or of a port that is there.
@@ -219,6 +224,29 @@ fn as_grand(time: i128) -> Result<u128, Answer> {
         Ok(time as u128)
     } else {
         Err(BEYOND_RANGE)
+    }
+}
+
+impl Settings {
+    /// Gives the own clock as a candidate where the station is capable.
+    fn candidate(&self) -> Option<Chosen> {
+        self.capable.then_some(Chosen {
+            precedence: self.precedence,
+            hop: 0,
+            port: OWN,
+        })
+    }
+}
+
+impl Chosen {
+    /// Gives the clock that a port hears as a candidate where there is an announcement.
+    fn heard(number: u8, port: &Port) -> Option<Chosen> {
+        let held = port.record.announcement?;
+        Some(Chosen {
+            precedence: held.precedence,
+            hop: held.hop,
+            port: number,
+        })
     }
 }
 
@@ -314,6 +342,15 @@ impl<T: Table, O: Order> Calls for Bridge<T, O> {
     #[cfg_attr(feature = "calls", inline(never))]
     fn chosen(&mut self) -> Option<(u8, u8)> {
         self.choose().map(|chosen| (chosen.port, chosen.hop))
+    }
+
+    /// Gives the candidate at a place of the ranking, and goes on to the order of the next.
+    #[cfg_attr(feature = "calls", inline(never))]
+    fn ranked(&mut self, place: u8) -> Option<Chosen> {
+        let sorted = self.sorted();
+        let ranked = sorted.iter().flatten().nth(usize::from(place)).copied();
+        self.order.turn();
+        ranked
     }
 
     /// Writes the next frame of a port, or refuses and leaves the output alone.

@@ -1,7 +1,7 @@
 //! The same bridge as one value of fixed size that each call takes and hands back.
 
 use crate::answer::Answer;
-use crate::bridge::{Bridge, Calls, Plan, Table, PORTS_MOST};
+use crate::bridge::{Bridge, Calls, Chosen, Plan, Table, PORTS_MOST};
 use crate::port::Port;
 
 /// Eight ports of which the first few count.
@@ -87,6 +87,12 @@ pub fn chosen(mut bridge: Flat) -> Option<(u8, u8)> {
     bridge.chosen()
 }
 
+/// Gives the candidate at a place of a bridge's ranking.
+#[inline(never)]
+pub fn ranked(mut bridge: Flat, place: u8) -> Option<Chosen> {
+    bridge.ranked(place)
+}
+
 /// Hands back a bridge after a frame was written.
 #[inline(never)]
 pub fn send(mut bridge: Flat, port: u8, departure: u64, output: &mut [u8]) -> (Answer, Flat) {
@@ -147,6 +153,11 @@ impl Calls for Handed {
     /// Asks a copy of the bridge for its chosen clock.
     fn chosen(&mut self) -> Option<(u8, u8)> {
         chosen(self.0)
+    }
+
+    /// Asks a copy of the bridge for the candidate at a place.
+    fn ranked(&mut self, place: u8) -> Option<Chosen> {
+        ranked(self.0, place)
     }
 
     /// Passes the bridge through a send.

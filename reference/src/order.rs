@@ -1,13 +1,21 @@
-//! The order and the grouping in which candidates are compared, which makes no difference to who is best.
+//! The order and the grouping in which candidates are compared, which makes no difference to who is best and to who comes after.
 
 use crate::bridge::{Chosen, PORTS_MOST};
 use crate::lives::random::Random;
 use std::fmt::Debug;
 
-/// A way to find the best of some candidates.
+/// How many places there are: the own clock's and each port's.
+const PLACES: usize = PORTS_MOST + 1;
+
+/// The places of the own clock and of all ports, each with a candidate or without.
+pub type Places = [Option<Chosen>; PLACES];
+
+/// A way to find the best of some candidates, and to list them before they are sorted.
 pub trait Order: Copy + Debug {
     /// Gives the best, or none where there are none.
     fn best(&self, candidates: impl Iterator<Item = Chosen>) -> Option<Chosen>;
+    /// Puts the places into the order in which they are listed.
+    fn mix(&self, places: &mut Places);
     /// Goes on to the way of the next choice.
     fn turn(&mut self);
 }
@@ -22,12 +30,12 @@ impl Order for InTurn {
         candidates.min()
     }
 
+    /// Leaves the places as they are.
+    fn mix(&self, _: &mut Places) {}
+
     /// Stays as it is.
     fn turn(&mut self) {}
 }
-
-/// The places of the own clock and of all ports.
-const PLACES: usize = PORTS_MOST + 1;
 
 /// At each choice another order and another grouping, from a seed, in which a place without a candidate is compared too.
 #[derive(Clone, Copy, Debug, PartialEq, Eq)]
@@ -50,6 +58,14 @@ impl Order for Shuffled {
         let mut places: Vec<Option<Chosen>> = candidates.map(Some).collect();
         places.resize(PLACES, None);
         paired(places, self.random, better).flatten()
+    }
+
+    /// Draws a place for each, from the last one on.
+    fn mix(&self, places: &mut Places) {
+        let mut random = self.random;
+        for last in (1..PLACES).rev() {
+            places.swap(last, random.index(last + 1));
+        }
     }
 
     /// Draws a seed for the next choice, so that no two go by the same numbers.

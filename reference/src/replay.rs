@@ -166,6 +166,7 @@ impl<C: Calls> Replay<C> {
             b"R" => self.receive(rest, out),
             b"A" => self.age(rest, out),
             b"C" => self.chosen(rest, out),
+            b"K" => self.ranked(rest, out),
             b"T" => self.send(rest, out),
             b"D" => self.drift(rest, out),
             b"E" => self.stamp(rest, out),
@@ -249,6 +250,15 @@ impl<C: Calls> Replay<C> {
         Some(())
     }
 
+    /// Prints the candidate at a place of the ranking.
+    fn ranked(&mut self, mut rest: Rest, out: &mut Vec<u8>) -> Option<()> {
+        let place = rest.byte()?;
+        rest.end()?;
+        let ranked = self.bridge.ranked(place);
+        put_chosen(out, ranked.map(|clock| (clock.port, clock.hop)));
+        Some(())
+    }
+
     /// Plays a send.
     fn send(&mut self, mut rest: Rest, out: &mut Vec<u8>) -> Option<()> {
         let port = rest.byte()?;
@@ -304,7 +314,7 @@ fn put_done(out: &mut Vec<u8>, numbers: &[(u128, usize)]) {
     }
 }
 
-/// Prints port and held hop of a chosen clock.
+/// Prints port and held hop of a clock, or that there is none.
 pub fn put_chosen(out: &mut Vec<u8>, chosen: Option<(u8, u8)>) {
     let (port, hop) = chosen.unwrap_or((NONE, NONE));
     put_two(out, port, hop);

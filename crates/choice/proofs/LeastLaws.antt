@@ -11,7 +11,7 @@ use lib.Dec.{ltb}
 use Rattle.choice.specs.Precedence.{precedenceOf, keyOf}
 use Rattle.choice.specs.Choose.{rankOf, candidateOf, ownCandidate, shownPort, shownHop}
 use Rattle.choice.specs.Rank.{CandidateFits}
-use Rattle.choice.specs.Least.{noRank, announcedRank, ownRank, leastOf, portIn, hopIn}
+use Rattle.choice.specs.Least.{noRank, rankIn, announcedRank, ownRank, leastOf, portIn, hopIn}
 use Rattle.choice.specs.declared.Precedence.{Precedence}
 use Rattle.choice.specs.declared.Announcement.{Announcement}
 use Rattle.choice.specs.declared.Announcement.the-variants.{Silent, Announced}
@@ -20,10 +20,6 @@ use Rattle.choice.specs.declared.Candidate.the-variants.{Nothing, Clock}
 use Rattle.numbers.proofs.Branches.{if-when}
 
 -- ---- the rank of a candidate
-
-abbrev pub rankIn : Candidate → ℕ
-rankIn Nothing = noRank
-rankIn (Clock precedence hop port) = rankOf precedence hop port
 
 pub announced-rank : (port : ℕ) (a : Announcement) → announcedRank port a ≡ rankIn (candidateOf port a)
 unfolding candidateOf

@@ -6,3 +6,4 @@ pub mod RankLaws
 pub mod HopLaws
 pub mod ShownLaws
 pub mod LeastLaws
+pub mod RankingLaws

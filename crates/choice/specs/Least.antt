@@ -7,10 +7,17 @@ use Rattle.choice.specs.Choose.{rankOf}
 use Rattle.choice.specs.declared.Precedence.{Precedence}
 use Rattle.choice.specs.declared.Announcement.{Announcement}
 use Rattle.choice.specs.declared.Announcement.the-variants.{Silent, Announced}
+use Rattle.choice.specs.declared.Candidate.{Candidate}
+use Rattle.choice.specs.declared.Candidate.the-variants.{Nothing, Clock}
 
 -- the rank where there is no clock: all its 15 bytes, precedence, held hop and port, are FF
 abbrev pub noRank : ℕ
 noRank = 2 ^ 120 - 1
+
+-- the rank of a candidate as one number
+abbrev pub rankIn : Candidate → ℕ
+rankIn Nothing = noRank
+rankIn (Clock precedence hop port) = rankOf precedence hop port
 
 -- the rank of a port by its announcement, and of the own clock, hop 0 and port 0, of a capable station
 abbrev pub announcedRank : ℕ → Announcement → ℕ

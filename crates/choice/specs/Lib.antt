@@ -6,3 +6,5 @@ pub mod Permutation
 pub mod Compare
 pub mod Rank
 pub mod Least
+pub mod Ranking
+pub mod Places

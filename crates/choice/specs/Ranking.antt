@@ -1,0 +1,53 @@
+-- The ranking: the clocks among some candidates, from best to worst.
+use mathlib.Core.Bool.{cond}
+use mathlib.Core.List.{List, [], _∷_, List·Memᴰ}
+use Prim.Native.Nat.{ℕ, _<_}
+use lib.Dec.{ltb, eqb}
+use lib.ListN.{getD}
+use Rattle.choice.specs.Choose.{numberOf}
+use Rattle.choice.specs.Least.{rankIn}
+use Rattle.choice.specs.declared.Candidate.{Candidate}
+use Rattle.choice.specs.declared.Candidate.the-variants.{Nothing, Clock}
+
+-- a clock put in before the first whose rank is greater
+unfoldable pub insertedOf : Candidate → List Candidate → List Candidate
+insertedOf c [] = c ∷ []
+insertedOf c (x ∷ l) = cond (ltb (rankIn c) (rankIn x)) (c ∷ (x ∷ l)) (x ∷ insertedOf c l)
+
+-- the same of a candidate: what is none is not put in
+unfoldable pub placedOf : Candidate → List Candidate → List Candidate
+placedOf Nothing l = l
+placedOf (Clock precedence hop number) l = insertedOf (Clock precedence hop number) l
+
+-- THE RANKING, made afresh: one candidate put in after the other
+unfoldable pub rankingOf : List Candidate → List Candidate
+rankingOf [] = []
+rankingOf (c ∷ l) = placedOf c (rankingOf l)
+
+-- the candidate at a place, the best at 0; none behind the last
+abbrev pub rankedAt : List Candidate → ℕ → Candidate
+rankedAt l place = getD l place Nothing
+
+-- ---- what the ranking is: in order, and the clocks of the list in another order
+
+-- from best to worst: each has a lesser rank than every one behind it
+abbrev pub Ordered : List Candidate → Type 0
+Ordered [] = Unit {0}
+Ordered (c ∷ l) = ((x : Candidate) → List·Memᴰ x l → rankIn c < rankIn x) × Ordered l
+
+-- the clocks of a list; what is no candidate is left out
+unfoldable pub clocksIn : List Candidate → List Candidate
+clocksIn [] = []
+clocksIn (Nothing ∷ l) = clocksIn l
+clocksIn (Clock precedence hop number ∷ l) = Clock precedence hop number ∷ clocksIn l
+
+-- ---- one candidate changed
+
+-- the list without what stands under a number
+unfoldable pub withoutNumber : ℕ → List Candidate → List Candidate
+withoutNumber number [] = []
+withoutNumber number (c ∷ l) = cond (eqb (numberOf c) number) (withoutNumber number l) (c ∷ withoutNumber number l)
+
+-- the list in which a candidate takes the place of what stood under its number
+abbrev pub withCandidate : ℕ → Candidate → List Candidate → List Candidate
+withCandidate number c l = placedOf c (withoutNumber number l)
