@@ -55,7 +55,7 @@ pub struct OwnClock {
 }
 
 /// A candidate: a clock that the station can follow, the better one being less.
-#[derive(Clone, Copy, Debug, PartialEq, Eq, PartialOrd, Ord)]
+#[derive(Clone, Copy, Debug, PartialEq, Eq, PartialOrd, Ord, Hash)]
 pub struct Chosen {
     pub precedence: u128,
     pub hop: u8,
@@ -175,15 +175,22 @@ impl<T: Table, O: Order> Bridge<T, O> {
         self.order.best(own.into_iter().chain(heard))
     }
 
-    /// Gives all clocks that can be followed from best to worst, after the places that have none.
-    pub fn sorted(&self) -> Places {
+    /// Gives the clock at a place of the ranking: all that can be followed, listed afresh and sorted from best to worst.
+    pub fn ranked_at(&self, place: u8) -> Option<Chosen> {
+        let mut places = self.candidates();
+        self.order.mix(&mut places);
+        places.sort();
+        let mut ranking = places.iter().flatten();
+        ranking.nth(usize::from(place)).copied()
+    }
+
+    /// Lists the own clock and every port, each as a candidate or none.
+    fn candidates(&self) -> Places {
         let mut places = Places::default();
         places[usize::from(OWN)] = self.settings.candidate();
         for (number, port) in (1..).zip(self.ports.as_ref()) {
             places[usize::from(number)] = Chosen::heard(number, port);
         }
-        self.order.mix(&mut places);
-        places.sort();
         places
     }
 
@@ -347,8 +354,7 @@ impl<T: Table, O: Order> Calls for Bridge<T, O> {
     /// Gives the candidate at a place of the ranking, and goes on to the order of the next.
     #[cfg_attr(feature = "calls", inline(never))]
     fn ranked(&mut self, place: u8) -> Option<Chosen> {
-        let sorted = self.sorted();
-        let ranked = sorted.iter().flatten().nth(usize::from(place)).copied();
+        let ranked = self.ranked_at(place);
         self.order.turn();
         ranked
     }

@@ -7,7 +7,7 @@ use std::fmt::Debug;
 /// How many places there are: the own clock's and each port's.
 const PLACES: usize = PORTS_MOST + 1;
 
-/// The places of the own clock and of all ports, each with a candidate or without.
+/// The places of the own clock and of all ports, each with a candidate or without: always as many, so that a sort of them is never one that calls itself.
 pub type Places = [Option<Chosen>; PLACES];
 
 /// A way to find the best of some candidates, and to list them before they are sorted.
@@ -37,7 +37,7 @@ impl Order for InTurn {
     fn turn(&mut self) {}
 }
 
-/// At each choice another order and another grouping, from a seed, in which a place without a candidate is compared too.
+/// At each choice and for each place that is asked for another order and another grouping, from a seed, in which a place without a candidate is compared too.
 #[derive(Clone, Copy, Debug, PartialEq, Eq)]
 pub struct Shuffled {
     random: Random,

@@ -1,16 +1,20 @@
 //! The figures that are known beforehand.
 
-use crate::answer::{BEYOND_RANGE, NO_CLOCK, OUT_OF_RANGE, OUT_OF_REACH, TOO_FEW_SAMPLES};
-use crate::bridge::{Bridge, Calls, Chosen, Listed, Plan, OWN};
+use crate::answer::{
+    BAD_DELAY, BEYOND_RANGE, DONE, NO_CLOCK, OUT_OF_RANGE, OUT_OF_REACH, OUT_OF_SEQUENCE, TOO_FAR,
+    TOO_FEW_SAMPLES,
+};
+use crate::bridge::{Bridge, Calls, Chosen, Listed, Plan, OWN, TIMEOUT_DEFAULT};
 use crate::byvalue::{Flat, Handed};
+use crate::frame::{self, Fields, FRAME_LEN};
 use crate::listing::Listing;
-use crate::lives::census::{Census, TimestampCensus};
+use crate::lives::census::{Census, RankingCensus, TimestampCensus};
 use crate::lives::latches;
 use crate::lives::limits;
 use crate::lives::lives;
 use crate::lives::random::Random;
 use crate::lives::stamped::Stamper;
-use crate::order::{better, paired, Shuffled};
+use crate::order::{better, paired, Order, Places, Shuffled};
 use crate::port::Port;
 use crate::program::Program;
 use crate::ptp::{export, import, on_scale, Scale, NANOSECONDS_END, SECONDS_END};
@@ -184,7 +188,7 @@ fn both_forms_of_the_state_answer_alike() {
     assert!(played.is_ok());
 }
 
-/// A bridge that compares in orders from a seed gives the same answers as one that compares its ports in turn, and between calls has the same choice.
+/// A bridge that compares in orders from a seed gives the same answers as one that compares its ports in turn, and between calls has the same choice and the same ranking.
 #[test]
 fn every_order_answers_alike() {
     let mut shuffled = Replay {
@@ -196,6 +200,9 @@ fn every_order_answers_alike() {
         shuffled.answer(line, &mut out);
         assert_eq!(out, reply);
         assert_eq!(shuffled.bridge.best(), bridge.best());
+        for place in 0..=9 {
+            assert_eq!(shuffled.bridge.ranked_at(place), bridge.ranked_at(place));
+        }
         Ok(())
     });
     assert!(played.is_ok());
@@ -727,4 +734,335 @@ fn every_pairing_chooses_the_same() {
         })
         .collect();
     assert_eq!(wrong, HashSet::from([Some(4), Some(5)]));
+}
+
+/// The nine places are listed in many orders: in a thousand seeds each candidate comes to each place, and no order is usual.
+#[test]
+fn every_place_is_drawn() {
+    let mut places = Places::default();
+    for (port, place) in (0..).zip(&mut places) {
+        *place = Some(Chosen {
+            precedence: 7,
+            hop: 2,
+            port,
+        });
+    }
+    let mut orders = HashSet::new();
+    let mut placed = HashSet::new();
+    for seed in 0..1_000 {
+        let mut mixed = places;
+        Shuffled::new(seed).mix(&mut mixed);
+        placed.extend(mixed.into_iter().enumerate());
+        orders.insert(mixed);
+        mixed.sort();
+        assert_eq!(mixed, places);
+    }
+    assert_eq!(placed.len(), places.len() * places.len());
+    assert!(orders.len() > 990);
+}
+
+/// Makes a bridge whose ports all have a link, with a precedence of its own clock where that is a candidate.
+fn linked(ports: u8, own: Option<u128>) -> Listed {
+    let mut bridge = Listed::empty();
+    let plan = Plan {
+        ports,
+        precedence: own.unwrap_or_default(),
+        capable: own.is_some(),
+        ..Plan::default()
+    };
+    assert_eq!(bridge.setup(&plan), DONE);
+    assert_eq!(bridge.links(((1_u16 << ports) - 1) as u8), Ok(ports));
+    bridge
+}
+
+/// Gives a frame of a precedence, a hop and a count, and of zeros.
+fn plain_frame(precedence: u128, hop: u8, count: u8) -> [u8; FRAME_LEN] {
+    frame::put_together(&Fields {
+        precedence,
+        hop,
+        count,
+        ..Fields::default()
+    })
+}
+
+/// Has a port take a frame of a precedence and hop 0, which is held as 1, after a first one that it refuses where it has heard none.
+fn hear(bridge: &mut Listed, port: u8, precedence: u128, now: u64) {
+    let count = match bridge.ports[usize::from(port) - 1].record.last {
+        Some(heard) => next_count(heard.count),
+        None => {
+            let first = plain_frame(precedence, 0, 0);
+            assert_eq!(bridge.receive(port, &first, now), OUT_OF_SEQUENCE);
+            1
+        }
+    };
+    let next = plain_frame(precedence, 0, count);
+    assert_eq!(bridge.receive(port, &next, now), DONE);
+}
+
+/// Gives the ports of all places up to the first without a candidate, and asserts that every later place is without one too.
+fn shown(bridge: &mut Listed) -> Vec<u8> {
+    let before = bridge.clone();
+    let places: Vec<Option<Chosen>> = (0..=u8::MAX).map(|place| bridge.ranked(place)).collect();
+    assert_eq!(*bridge, before);
+    let shown: Vec<u8> = places
+        .iter()
+        .map_while(|clock| Some((*clock)?.port))
+        .collect();
+    assert!(places[shown.len()..].iter().all(Option::is_none));
+    shown
+}
+
+/// Without a candidate no place has one: before a setup, and after one of a station that isn't capable.
+#[test]
+fn no_candidate_has_no_place() {
+    assert_eq!(shown(&mut Listed::empty()), []);
+    assert_eq!(shown(&mut linked(8, None)), []);
+}
+
+/// The own clock of a capable station is in its place from the setup on, with hop 0, and before every port of the same precedence.
+#[test]
+fn the_own_clock_has_a_place() {
+    let mut bridge = linked(3, Some(5));
+    let own = Chosen {
+        precedence: 5,
+        hop: 0,
+        port: OWN,
+    };
+    assert_eq!(bridge.ranked(0), Some(own));
+    assert_eq!(shown(&mut bridge), [OWN]);
+    hear(&mut bridge, 3, 4, 0);
+    hear(&mut bridge, 1, 5, 0);
+    hear(&mut bridge, 2, 6, 0);
+    assert_eq!(shown(&mut bridge), [3, OWN, 1, 2]);
+    assert_eq!(bridge.own_clock(0, 0, 0, 0), OUT_OF_SEQUENCE);
+    assert_eq!(bridge.own_clock(1, 0, 0, 1), DONE);
+    assert_eq!(shown(&mut bridge), [3, OWN, 1, 2]);
+}
+
+/// The runner-up is the best but for the chosen clock, and a clock that becomes better or worse goes to where it belongs.
+#[test]
+fn the_runner_up_comes_second() {
+    let mut bridge = linked(3, None);
+    hear(&mut bridge, 1, 30, 0);
+    assert_eq!(shown(&mut bridge), [1]);
+    hear(&mut bridge, 2, 10, 0);
+    hear(&mut bridge, 3, 20, 0);
+    assert_eq!(shown(&mut bridge), [2, 3, 1]);
+    let runner_up = Chosen {
+        precedence: 20,
+        hop: 1,
+        port: 3,
+    };
+    assert_eq!(bridge.ranked(1), Some(runner_up));
+    hear(&mut bridge, 1, 5, 0);
+    assert_eq!(shown(&mut bridge), [1, 2, 3]);
+    hear(&mut bridge, 1, 15, 0);
+    assert_eq!(shown(&mut bridge), [2, 1, 3]);
+    hear(&mut bridge, 2, 40, 0);
+    assert_eq!(shown(&mut bridge), [1, 3, 2]);
+    hear(&mut bridge, 3, 20, 0);
+    assert_eq!(shown(&mut bridge), [1, 3, 2]);
+}
+
+/// Of the same precedence the lesser hop is first, and of the same hop too the lesser port, whichever was heard last.
+#[test]
+fn ties_go_by_hop_and_port() {
+    let mut bridge = linked(4, None);
+    for port in [3, 1, 4, 2, 1, 3] {
+        hear(&mut bridge, port, 7, 0);
+    }
+    assert_eq!(shown(&mut bridge), [1, 2, 3, 4]);
+    assert_eq!(bridge.receive(1, &plain_frame(7, 1, 3), 0), DONE);
+    assert_eq!(bridge.ranked(3).map(|clock| clock.hop), Some(2));
+    assert_eq!(shown(&mut bridge), [2, 3, 4, 1]);
+    hear(&mut bridge, 1, 7, 0);
+    assert_eq!(shown(&mut bridge), [1, 2, 3, 4]);
+}
+
+/// Eight ports and the own clock have nine places, and there is no tenth.
+#[test]
+fn nine_places_can_be_shown() {
+    let mut bridge = linked(8, Some(4));
+    for port in 1..=8 {
+        hear(&mut bridge, port, u128::from(8 - port), 0);
+    }
+    assert_eq!(shown(&mut bridge), [8, 7, 6, 5, OWN, 4, 3, 2, 1]);
+    assert_eq!(bridge.ranked(8).map(|clock| clock.port), Some(1));
+    assert_eq!(bridge.ranked(9), None);
+    assert_eq!(bridge.ranked(255), None);
+}
+
+/// A port whose link goes down is gone at once, and when the link is back it stays away until a frame is taken.
+#[test]
+fn a_lost_link_leaves_the_ranking() {
+    let mut bridge = linked(3, None);
+    for port in 1..=3 {
+        hear(&mut bridge, port, u128::from(port), 0);
+    }
+    assert_eq!(bridge.links(0b1101), Err(OUT_OF_RANGE));
+    assert_eq!(shown(&mut bridge), [1, 2, 3]);
+    assert_eq!(bridge.links(0b101), Ok(2));
+    assert_eq!(shown(&mut bridge), [1, 3]);
+    assert_eq!(bridge.links(0b111), Ok(3));
+    assert_eq!(shown(&mut bridge), [1, 3]);
+    assert_eq!(bridge.receive(2, &plain_frame(0, 0, 9), 0), OUT_OF_SEQUENCE);
+    assert_eq!(shown(&mut bridge), [1, 3]);
+    hear(&mut bridge, 2, 2, 0);
+    assert_eq!(shown(&mut bridge), [1, 2, 3]);
+    assert_eq!(bridge.links(0b010), Ok(1));
+    assert_eq!(shown(&mut bridge), [2]);
+}
+
+/// A port that ages is gone at once, those heard later and the own clock stay, and the next frame that is taken brings it back.
+#[test]
+fn an_aged_port_leaves_the_ranking() {
+    let mut bridge = linked(3, Some(9));
+    for (port, now) in [(1, 100), (2, 102), (3, 101)] {
+        hear(&mut bridge, port, u128::from(port), now);
+    }
+    assert_eq!(bridge.age(TIMEOUT_DEFAULT + 99), DONE);
+    assert_eq!(shown(&mut bridge), [1, 2, 3, OWN]);
+    assert_eq!(bridge.age(TIMEOUT_DEFAULT + 101), DONE);
+    assert_eq!(shown(&mut bridge), [2, OWN]);
+    hear(&mut bridge, 1, 8, 103);
+    assert_eq!(shown(&mut bridge), [2, 1, OWN]);
+    assert_eq!(bridge.age(LOCAL_END), OUT_OF_RANGE);
+    assert_eq!(shown(&mut bridge), [2, 1, OWN]);
+    assert_eq!(bridge.age(0), DONE);
+    assert_eq!(shown(&mut bridge), [OWN]);
+}
+
+/// A frame that is refused, with 7, 8 or 9 too, leaves every candidate in its place.
+#[test]
+fn a_refused_frame_leaves_the_ranking_alone() {
+    let mut bridge = linked(3, None);
+    for port in 1..=3 {
+        hear(&mut bridge, port, u128::from(port), 0);
+    }
+    let best = plain_frame(0, 0, 2);
+    let too_far = plain_frame(0, HOP_NONE, 2);
+    let out_of_sequence = plain_frame(0, 0, 4);
+    let bad_delay = frame::put_together(&Fields {
+        count: 5,
+        that_tx: 1,
+        ..Fields::default()
+    });
+    for (bytes, refusal) in [
+        (too_far, TOO_FAR),
+        (out_of_sequence, OUT_OF_SEQUENCE),
+        (bad_delay, BAD_DELAY),
+    ] {
+        assert_eq!(bridge.receive(3, &bytes, 0), refusal);
+        assert_eq!(shown(&mut bridge), [1, 2, 3]);
+    }
+    assert_eq!(bridge.receive(4, &best, 0), OUT_OF_RANGE);
+    assert_eq!(bridge.receive(3, &best, LOCAL_END), OUT_OF_RANGE);
+    assert_eq!(shown(&mut bridge), [1, 2, 3]);
+    hear(&mut bridge, 3, 0, 0);
+    assert_eq!(shown(&mut bridge), [3, 1, 2]);
+}
+
+/// A setup begins the ranking anew, and a refused one leaves it empty.
+#[test]
+fn a_setup_begins_the_ranking_anew() {
+    let mut bridge = linked(2, Some(9));
+    hear(&mut bridge, 1, 1, 0);
+    assert_eq!(shown(&mut bridge), [1, OWN]);
+    let plan = Plan {
+        ports: 2,
+        capable: true,
+        ..Plan::default()
+    };
+    assert_eq!(bridge.setup(&plan), DONE);
+    assert_eq!(shown(&mut bridge), [OWN]);
+    assert_eq!(bridge.setup(&Plan { ports: 0, ..plan }), 1);
+    assert_eq!(shown(&mut bridge), []);
+}
+
+/// After every line of generated lives the ranking begins with the chosen clock, goes from better to worse, and has each candidate once.
+#[test]
+fn the_ranking_has_each_candidate_once() {
+    let played = lives(100_000, 4, &mut |_, _, bridge| {
+        let ranking = limits::ranking(bridge);
+        assert_eq!(ranking.first(), bridge.best().as_ref());
+        assert!(ranking.windows(2).all(|pair| pair[0] < pair[1]));
+        let ranked: HashSet<u8> = ranking.iter().map(|clock| clock.port).collect();
+        let announced = (1..)
+            .zip(&bridge.ports)
+            .filter(|(_, port)| port.record.announcement.is_some())
+            .map(|(number, _)| number);
+        let own = bridge.settings.capable.then_some(OWN);
+        assert_eq!(ranked, own.into_iter().chain(announced).collect());
+        assert_eq!(ranked.len(), ranking.len());
+        Ok(())
+    });
+    assert!(played.is_ok());
+}
+
+/// A line of a place has one number below 256, prints as that of the chosen clock does, and leaves the bridge as it was.
+#[test]
+fn lines_of_places_have_their_form() {
+    let mut bridge = linked(2, Some(9));
+    hear(&mut bridge, 2, 1, 0);
+    let mut replay = Replay {
+        bridge: bridge.clone(),
+    };
+    let mut answer = |line: &str| {
+        let mut out = Vec::new();
+        replay.answer(line.as_bytes(), &mut out);
+        assert_eq!(replay.bridge, bridge);
+        String::from_utf8_lossy(&out).into_owned()
+    };
+    assert_eq!(answer("C"), "02 01");
+    assert_eq!(answer("K 0"), "02 01");
+    assert_eq!(answer("K 1"), "00 00");
+    assert_eq!(answer("K 01"), "00 00");
+    assert_eq!(answer("K 0000000000000001"), "00 00");
+    for beyond in ["K 2", "K 9", "K a", "K FF", "K ff", "K 00000000000000fF"] {
+        assert_eq!(answer(beyond), "FF FF");
+    }
+    for no_line in [
+        "K",
+        "K ",
+        "K 0 ",
+        "K 0 0",
+        "K  0",
+        " K 0",
+        "k 0",
+        "KK 0",
+        "K0",
+        "K -",
+        "K -1",
+        "K g",
+        "K 100",
+        "K 0100",
+        "K FFFFFFFFFFFFFFFF",
+        "K 00000000000000000",
+    ] {
+        assert_eq!(answer(no_line), "0E");
+    }
+}
+
+/// The count of places wants each thing that a place shows after each thing that happens to the ranking.
+#[test]
+fn census_misses_places() {
+    let mut census = RankingCensus::default();
+    let mut bridge = linked(2, Some(9));
+    assert_eq!(census.missing().len(), 39);
+    census.count(b"S", b"00", &bridge);
+    census.count(b"K 0", b"00 00", &bridge);
+    assert_eq!(census.missing().len(), 38);
+    hear(&mut bridge, 2, 9, 0);
+    census.count(b"R 2", b"00", &bridge);
+    census.count(b"K 1", b"02 01", &bridge);
+    census.count(b"K 10", b"FF FF", &bridge);
+    census.count(b"K", b"0E", &bridge);
+    assert_eq!(census.missing().len(), 34);
+    assert!(bridge.links(0).is_ok());
+    census.count(b"L 0", b"00 00", &bridge);
+    census.count(b"K 1", b"FF FF", &bridge);
+    let missing = census.missing();
+    assert!(!missing.contains(&String::from("beyond after lost")));
+    assert!(missing.contains(&String::from("chosen after lost")));
+    assert!(missing.contains(&String::from("tied")));
 }

@@ -62,11 +62,6 @@ module _ {A : Type 0} (want k : ℕ) (e : k ≡ want) where
 refuses : (b : Bridge) (want k : ℕ) (x : Done) → k ≡ want → (k ≡ 0 → ⊥) → answers k b ≡ refusedOr b want x
 refuses b want k x e n = ap (λ (j : ℕ). answers j b) e ∙ stops want k e x (answers want b) n
 
--- what holds of two things that one test decides holds by its branches
-pub if-both : {A B : Type 0} (P : A → B → Type 0) (r : Bool) {x y : A} {u v : B} → (r ≡ true → P x u) → (r ≡ false → P y v) → P (cond r x y) (cond r u v)
-if-both P true f g = f refl
-if-both P false f g = g refl
-
 -- ---- setup
 
 module _ (s : Setup) where

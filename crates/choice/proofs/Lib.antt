@@ -7,3 +7,5 @@ pub mod HopLaws
 pub mod ShownLaws
 pub mod LeastLaws
 pub mod RankingLaws
+pub mod PlacesLaws
+pub mod PlaceLoops

@@ -1,21 +1,21 @@
--- Laws of ranks in two numbers: the lesser of two is the rank of the better candidate, and a rank names its candidate.
+-- Laws of ranks in two numbers: they are compared as the ranks are, that of none is the greatest, and a rank names its candidate.
 use mathlib.Core.Path.{_≡_, refl, sym, ap, _∙_, subst}
 use mathlib.Core.Bool.{Bool, true, false, cond}
 use Prim.Native.Nat.{ℕ, _+_, _*_, _/_, _%_, _^_, _<_, _≤_}
 use native.Mathlib.Omega.{arith}
-use native.Mathlib.Nat.{mul-le-mul-right, le-of-lt}
+use native.Mathlib.Nat.{mul-le-mul-right}
 use lib.Arith.{digits-div, digits-mod}
-use lib.Dec.{ltb}
-use borrow.Author.Tests.{lt-ltb, le-ltb, ltb-true, ltb-false, ne-eqb}
+use lib.Dec.{ltb, eqb}
+use borrow.Author.Tests.{lt-ltb, le-ltb, ltb-true, ltb-false, eqb-true, ne-eqb}
 use Rattle.choice.specs.Precedence.{highOf, precedenceOf, keyOf}
-use Rattle.choice.specs.Choose.{rankOf, betterOf}
-use Rattle.choice.specs.Rank.{lowerEnd, lastNumber, inNumbers, PrecedenceFits, CandidateFits, Ranks, worthOf, lesserOf, precedenceAt, candidateAt}
+use Rattle.choice.specs.Choose.{rankOf}
+use Rattle.choice.specs.Rank.{lowerEnd, lastNumber, inNumbers, PrecedenceFits, CandidateFits, Ranks, worthOf, sameRank, precedenceAt, candidateAt}
 use Rattle.choice.specs.declared.Precedence.{Precedence}
 use Rattle.choice.specs.declared.Candidate.{Candidate}
 use Rattle.choice.specs.declared.Candidate.the-variants.{Nothing, Clock}
 use Rattle.choice.specs.declared.Rank.{Rank}
-use Rattle.choice.proofs.BetterLaws.{better-fits}
-use Rattle.numbers.proofs.Branches.{if-true, if-false}
+use Rattle.numbers.proofs.Branches.{if-false}
+use Rattle.times.proofs.TestLaws.{both-hold}
 
 -- ---- the two numbers of a clock's rank
 
@@ -65,7 +65,7 @@ abbrev apart : ℕ → ℕ
 apart x = x / lowerEnd * 2 ^ 64 + x % lowerEnd
 
 -- that leaves the order of numbers as it is
-same-order : (x y : ℕ) → ltb (apart x) (apart y) ≡ ltb x y
+pub same-order : (x y : ℕ) → ltb (apart x) (apart y) ≡ ltb x y
 same-order x y = by (ltb x y) refl where
   by : (t : Bool) → ltb x y ≡ t → ltb (apart x) (apart y) ≡ ltb x y
   by true e = lt-ltb (apart x) (apart y) (omega (arith, ltb-true x y e)) ∙ sym e
@@ -76,40 +76,18 @@ both-less : (m q s r t : ℕ) → q ≤ s → r < t → q * m + r < s * m + t
 both-less m q s r t k l = omega (arith, mul-le-mul-right m k)
 
 -- every clock's rank is less than what stands for no candidate
-clock-below : (p : Precedence) (h n : ℕ) → CandidateFits (Clock p h n) → worthOf (inNumbers (Clock p h n)) < worthOf (inNumbers Nothing)
+pub clock-below : (p : Precedence) (h n : ℕ) → CandidateFits (Clock p h n) → worthOf (inNumbers (Clock p h n)) < worthOf (inNumbers Nothing)
 unfolding inNumbers
 clock-below p h n (f, k, l) =
     both-less (2 ^ 64) (rankOf p h n / lowerEnd) lastNumber (rankOf p h n % lowerEnd) lastNumber
     (rw (sym (ap (λ (r : Rank). r .0) (clock-numbers p h n k l))) (omega (arith, upper-fits p (p .clock / 2 ^ 40) f (omega arith))))
     (omega arith)
 
--- what is made of a choice is the choice of what is made of each
-made-of : {A B : Type 0} (f : A → B) (t : Bool) (x y : A) → cond t (f x) (f y) ≡ f (cond t x y)
-made-of f true x y = refl
-made-of f false x y = refl
-
--- the lesser of two candidates' ranks is that of the better
-lesser-numbers : (c d : Candidate) → CandidateFits c → CandidateFits d → lesserOf (inNumbers c) (inNumbers d) ≡ inNumbers (betterOf c d)
-unfolding lesserOf betterOf inNumbers
-lesser-numbers Nothing Nothing f g = refl
-lesser-numbers Nothing (Clock q k j) f g = sym (if-true _ _ _ (lt-ltb _ _ (clock-below q k j g)))
-lesser-numbers (Clock p h i) Nothing f g = sym (if-false _ _ _ (le-ltb _ _ (le-of-lt (clock-below p h i f))))
-lesser-numbers (Clock p h i) (Clock q k j) f g = rw (same-order (rankOf q k j) (rankOf p h i)) (made-of inNumbers (ltb (rankOf q k j) (rankOf p h i)) (Clock q k j) (Clock p h i))
-
--- no rank is above what stands for no candidate, and against that any stays
-both-most : (m q s r t : ℕ) → q ≤ s → r ≤ t → q * m + r ≤ s * m + t
-both-most m q s r t k l = omega (arith, mul-le-mul-right m k)
-
-pub lesser-nothing : (r : Rank) → r .0 ≤ lastNumber → r .1 ≤ lastNumber → r ≡ lesserOf r (inNumbers Nothing)
-unfolding lesserOf inNumbers
-lesser-nothing r k l = if-false _ _ _ (le-ltb _ _ (both-most (2 ^ 64) (r .0) lastNumber (r .1) lastNumber k l))
-
--- both, of any two ranks
-pub better-rank : {a b : Rank} {c d : Candidate} → Ranks a c → Ranks b d → Ranks (lesserOf a b) (betterOf c d)
-better-rank {a} {b} {c} {d} x y = record {
-  is = rw (x .is, y .is) (lesser-numbers c d (x .fits) (y .fits));
-  fits = better-fits c d (x .fits) (y .fits);
-}
+-- two that are found to be the same are
+pub same-ranks : (a b : Rank) → sameRank a b ≡ true → a ≡ b
+same-ranks a b e =
+    let (upper, lower) = both-hold (eqb (a .0) (b .0)) (eqb (a .1) (b .1)) e in
+    λ i. record { 0 = eqb-true (a .0) (b .0) upper i; 1 = eqb-true (a .1) (b .1) lower i }
 
 -- ---- the candidate in a rank
 
@@ -132,7 +110,7 @@ module _ (p : Precedence) (h n : ℕ) (f : PrecedenceFits p) (k : h < 2 ^ 8) (l 
       let number : lowerOf p h n % 2 ^ 8 ≡ n = omega arith in
       sym (if-false _ _ _ (ne-eqb (lowerOf p h n) lastNumber (λ e. omega arith))) ∙ (λ i. Clock (precedence-named i) (hop i) (number i))
 
-candidate-named : (c : Candidate) → CandidateFits c → candidateAt (inNumbers c) ≡ c
+pub candidate-named : (c : Candidate) → CandidateFits c → candidateAt (inNumbers c) ≡ c
 unfolding candidateAt inNumbers
 candidate-named Nothing f = refl
 candidate-named (Clock p h n) (f, k, l) = ap candidateAt (sym (clock-numbers p h n k l)) ∙ clock-named p h n f k l

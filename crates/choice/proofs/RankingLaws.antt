@@ -14,7 +14,7 @@ use Rattle.choice.specs.Choose.{rankOf, betterOf, bestOf, numberOf}
 use Rattle.choice.specs.Rank.{CandidateFits}
 use Rattle.choice.specs.Least.{noRank, rankIn}
 use Rattle.choice.specs.Permutation.{Permutation, empty, placed}
-use Rattle.choice.specs.Ranking.{insertedOf, placedOf, rankingOf, rankedAt, Ordered, clocksIn, withoutNumber, withCandidate}
+use Rattle.choice.specs.Ranking.{insertedOf, placedOf, rankingOf, rankedAt, Ordered, IsClock, clocksIn, withoutNumber, withCandidate}
 use Rattle.choice.specs.declared.Precedence.{Precedence}
 use Rattle.choice.specs.declared.Candidate.{Candidate}
 use Rattle.choice.specs.declared.Candidate.the-variants.{Nothing, Clock}
@@ -79,9 +79,10 @@ inserted-ordered c (y ∷ l) (first, o) other =
     let less = ltb-true (rankIn c) (rankIn y) e in
     (λ x m. ⊎-elim (λ q. subst (λ (z : Candidate). rankIn c < rankIn z) (sym q) less) (λ n. lt-trans less (first x n)) (List·Memᴰ·cases-cons m), (first, o)))
     (λ e.
-    let less : rankIn y < rankIn c = omega (arith, ltb-false (rankIn c) (rankIn y) e, other y (List·Memᴰ·head refl)) in
-    ( λ x m. ⊎-elim (λ q. subst (λ (z : Candidate). rankIn y < rankIn z) (sym q) less) (first x) (inserted-members c l m)
-    , inserted-ordered c l o (λ x m. other x (List·Memᴰ·tail m))))
+    let less : rankIn y < rankIn c = omega (arith, ltb-false (rankIn c) (rankIn y) e, other y (List·Memᴰ·head refl)) in (
+      λ x m. ⊎-elim (λ q. subst (λ (z : Candidate). rankIn y < rankIn z) (sym q) less) (first x) (inserted-members c l m),
+      inserted-ordered c l o (λ x m. other x (List·Memᴰ·tail m)),
+    ))
 
 -- it stands somewhere among the others, which stay as they are
 abbrev Among : Candidate → List Candidate → List Candidate → Type 0
@@ -133,11 +134,6 @@ unfolding rankingOf placedOf
 ranking-length [] = omega arith
 ranking-length (Nothing ∷ l) = omega (arith, ranking-length l)
 ranking-length (Clock p h n ∷ l) = omega (arith, ranking-length l, inserted-length (Clock p h n) (rankingOf l))
-
--- what is a clock
-abbrev pub IsClock : Candidate → Type 0
-IsClock Nothing = ⊥
-IsClock (Clock precedence hop number) = Unit {0}
 
 -- the clocks of a list are its members that are clocks
 clocks-members : (l : List Candidate) {x : Candidate} → List·Memᴰ x (clocksIn l) → List·Memᴰ x l × IsClock x
@@ -205,7 +201,7 @@ unfolding rankOf
 rank-number p h n l = omega arith
 
 -- how many numbers there are
-abbrev numbers : ℕ
+abbrev pub numbers : ℕ
 numbers = 256
 
 same-number : (p : Precedence) (h n : ℕ) (q : Precedence) (k m : ℕ) → n < numbers → m < numbers → rankOf p h n ≡ rankOf q k m → n ≡ m
@@ -285,7 +281,7 @@ without-there n (c ∷ l) {x} m other =
     (λ _. ⊎-elim List·Memᴰ·head (λ r. List·Memᴰ·tail (without-there n l r other)) (List·Memᴰ·cases-cons m))
 
 -- the rest is in order
-without-ordered : (n : ℕ) (l : List Candidate) → Ordered l → Ordered (withoutNumber n l)
+pub without-ordered : (n : ℕ) (l : List Candidate) → Ordered l → Ordered (withoutNumber n l)
 unfolding withoutNumber
 without-ordered n [] o = tt
 without-ordered n (c ∷ l) (first, o) =
@@ -303,18 +299,18 @@ without-none n (c ∷ l) none =
 
 -- ---- and put in again
 
-placed-members : (c : Candidate) (l : List Candidate) {x : Candidate} → List·Memᴰ x (placedOf c l) → (IsClock x × (x ≡ c)) ⊎ List·Memᴰ x l
+pub placed-members : (c : Candidate) (l : List Candidate) {x : Candidate} → List·Memᴰ x (placedOf c l) → (IsClock x × (x ≡ c)) ⊎ List·Memᴰ x l
 unfolding placedOf
 placed-members Nothing l m = inr m
 placed-members (Clock p h n) l m = ⊎-elim (λ e. inl (subst IsClock (sym e) tt, e)) inr (inserted-members (Clock p h n) l m)
 
-placed-there : (c : Candidate) (l : List Candidate) {x : Candidate} → (IsClock x × (x ≡ c)) ⊎ List·Memᴰ x l → List·Memᴰ x (placedOf c l)
+pub placed-there : (c : Candidate) (l : List Candidate) {x : Candidate} → (IsClock x × (x ≡ c)) ⊎ List·Memᴰ x l → List·Memᴰ x (placedOf c l)
 unfolding placedOf
 placed-there Nothing l w = ⊎-elim (λ (clock, e). absurd (subst IsClock e clock)) (λ m. m) w
 placed-there (Clock p h n) l w = inserted-there (Clock p h n) l (⊎-elim (λ (_, e). inl e) inr w)
 
 -- in order, where the others have numbers of their own
-with-ordered : (n : ℕ) (c : Candidate) (l : List Candidate) → n < numbers → Under n c → Ordered l → ((x : Candidate) → List·Memᴰ x l → IsClock x × (numberOf x < numbers))
+pub with-ordered : (n : ℕ) (c : Candidate) (l : List Candidate) → n < numbers → Under n c → Ordered l → ((x : Candidate) → List·Memᴰ x l → IsClock x × (numberOf x < numbers))
     → Ordered (withCandidate n c l)
 unfolding placedOf
 with-ordered n Nothing l small u o each = without-ordered n l o

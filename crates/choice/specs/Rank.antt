@@ -1,8 +1,8 @@
--- How ranks are compared: a candidate's rank as two numbers, the lesser of two, and the candidate that a rank names. No rule stands here: that this is the choice of Choose.antt is `better-rank` and `rank-candidate`.
+-- How ranks are compared: a candidate's rank as two numbers, and the candidate that a rank names. No rule stands here: that the order of these numbers is that of ranks is `same-order`, and that a rank names its candidate `rank-candidate`.
 use mathlib.Core.Path.{_≡_}
-use mathlib.Core.Bool.{cond}
+use mathlib.Core.Bool.{Bool, cond, _&&_}
 use Prim.Native.Nat.{ℕ, _+_, _-_, _*_, _/_, _%_, _^_, _<_}
-use lib.Dec.{ltb, eqb}
+use lib.Dec.{eqb}
 use Rattle.choice.specs.Choose.{rankOf}
 use Rattle.choice.specs.declared.Precedence.{Precedence}
 use Rattle.choice.specs.declared.Candidate.{Candidate}
@@ -44,12 +44,12 @@ pub record Ranks (r : Rank) (c : Candidate) : Type 0 where
 abbrev pub Ranked : Rank → Type 0
 Ranked r = (c : Candidate) × Ranks r c
 
--- a rank as one number, and the lesser of two
+-- a rank as one number, and whether two are the same
 abbrev pub worthOf : Rank → ℕ
 worthOf r = r .0 * 2 ^ 64 + r .1
 
-unfoldable pub lesserOf : Rank → Rank → Rank
-lesserOf a b = cond (ltb (worthOf b) (worthOf a)) b a
+abbrev pub sameRank : Rank → Rank → Bool
+sameRank a b = eqb (a .0) (b .0) && eqb (a .1) (b .1)
 
 -- the precedence in a rank: its 40 bits above the clock, the clock's upper 24 bits, and in the lower number its 40 others
 unfoldable pub precedenceAt : Rank → Precedence

@@ -35,6 +35,11 @@ abbrev pub Ordered : List Candidate → Type 0
 Ordered [] = Unit {0}
 Ordered (c ∷ l) = ((x : Candidate) → List·Memᴰ x l → rankIn c < rankIn x) × Ordered l
 
+-- what is a clock
+abbrev pub IsClock : Candidate → Type 0
+IsClock Nothing = ⊥
+IsClock (Clock precedence hop number) = Unit {0}
+
 -- the clocks of a list; what is no candidate is left out
 unfoldable pub clocksIn : List Candidate → List Candidate
 clocksIn [] = []

@@ -3,7 +3,7 @@ ghost use mathlib.Core.Path.{_≡_};
 ghost use Prim.Native.Nat.{_<_};
 ghost use lib.Dec.{ltb};
 ghost use Rattle.choice.specs.Choose.{candidateOf, ownCandidate};
-ghost use Rattle.choice.specs.Rank.{lowerEnd, inNumbers, CandidateFits, Ranks, Ranked, worthOf, lesserOf, precedenceAt, candidateAt};
+ghost use Rattle.choice.specs.Rank.{lowerEnd, Ranks, Ranked, worthOf, sameRank, precedenceAt, candidateAt};
 use choice::Announcement;
 use choice::Candidate;
 use choice::Precedence;
@@ -56,8 +56,18 @@ pub fn own(capable: bool, precedence: Precedence) -> Rank
     }
 }
 
+// The rank of the clock that is announced at the port with this number.
+pub fn announced(announcement: Announcement, number: u8) -> Rank
+    ensures { λ r. ⌜ Ranks r (candidateOf number announcement) ⌝ }
+{
+    match announcement {
+        Announcement::Silent => Rank(LAST, LAST),
+        Announcement::Announced(precedence, hop, _) => clock(precedence, hop, number),
+    }
+}
+
 // Whether the first rank is less.
-fn precedes(a: Rank, b: Rank) -> bool
+pub fn precedes(a: Rank, b: Rank) -> bool
     ensures { λ r. ⌜ r ≡ ltb (worthOf a) (worthOf b) ⌝ }
 {
     if a.0 < b.0 {
@@ -69,24 +79,14 @@ fn precedes(a: Rank, b: Rank) -> bool
     a.1 < b.1
 }
 
-// The lesser of two ranks.
-fn lesser_of(a: Rank, b: Rank) -> Rank
-    ensures { λ r. ⌜ r ≡ lesserOf a b ⌝ }
+// Whether two ranks are the same.
+pub fn same(a: Rank, b: Rank) -> bool
+    ensures { λ r. ⌜ r ≡ sameRank a b ⌝ }
 {
-    if precedes(b, a) { b } else { a }
-}
-
-// The lesser of a rank and that of the clock announced at the port with this number.
-pub fn lesser(best: Rank, announcement: Announcement, number: u8) -> Rank
-    ensures { λ r. ⌜ r ≡ lesserOf best (inNumbers (candidateOf number announcement)) ⌝ }
-    ensures { λ _. ⌜ CandidateFits (candidateOf number announcement) ⌝ }
-{
-    match announcement {
-        Announcement::Silent => best,
-        Announcement::Announced(precedence, hop, _) => {
-            lesser_of(best, clock(precedence, hop, number))
-        }
+    if a.0 == b.0 {
+        return a.1 == b.1;
     }
+    false
 }
 
 // The precedence in a rank.

@@ -13,3 +13,8 @@ module _ {A : Type 0} where
   pub if-when : (P : A → Type 0) (t : Bool) {x y : A} → (t ≡ true → P x) → (t ≡ false → P y) → P (cond t x y)
   if-when P true f g = f refl
   if-when P false f g = g refl
+
+-- what holds of two things that one test decides holds by its branches
+pub if-both : {A B : Type 0} (P : A → B → Type 0) (t : Bool) {x y : A} {u v : B} → (t ≡ true → P x u) → (t ≡ false → P y v) → P (cond t x y) (cond t u v)
+if-both P true f g = f refl
+if-both P false f g = g refl

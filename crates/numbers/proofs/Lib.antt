@@ -6,3 +6,4 @@ pub mod Places
 pub mod Table
 pub mod Pairs
 pub mod Branches
+pub mod Written

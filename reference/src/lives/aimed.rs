@@ -1,6 +1,7 @@
 //! Lives in which each frame is aimed at some limit of the rules.
 
 use super::extras;
+use super::panel;
 use super::pen::Pen;
 use super::plans;
 use super::random::Random;
@@ -68,6 +69,7 @@ impl Plans {
         if pen.random.often(10) {
             let mask = pen.random.bits() as u8 & all;
             pen.links(mask);
+            panel::look(pen);
             pen.links(all);
         }
         if pen.bridge().settings.capable && pen.random.often(400) {

@@ -1,12 +1,13 @@
-//! Counts how often each call gave each answer, how the frames that were taken came by their held hops, which way rates were rounded, and where scales left their range.
+//! Counts how often each call gave each answer, how the frames that were taken came by their held hops, which way rates were rounded, what places of the ranking showed, and where scales left their range.
 
 use super::latches;
 use super::limits;
 use super::pen::answer_of;
 use crate::answer::{
-    Answer, BAD_LINE, BEYOND_RANGE, DONE, NO_CLOCK, OUT_OF_RANGE, OUT_OF_REACH, TOO_FEW_SAMPLES,
+    Answer, BAD_DELAY, BAD_LINE, BEYOND_RANGE, DONE, NO_CLOCK, OUT_OF_RANGE, OUT_OF_REACH, TOO_FAR,
+    TOO_FEW_SAMPLES,
 };
-use crate::bridge::{Listed, OWN, PORTS_MOST};
+use crate::bridge::{Chosen, Listed, OWN, PORTS_MOST};
 use crate::frame::AT_HOP;
 use crate::hex;
 use crate::ptp::SECONDS_END;
@@ -219,11 +220,7 @@ impl fmt::Display for RateCensus {
     /// Prints a row for whose rates they are with a column for each way of rounding.
     fn fmt(&self, out: &mut fmt::Formatter) -> fmt::Result {
         for (rated, row) in RATED.iter().zip(&self.counts) {
-            write!(out, "rates of {rated}")?;
-            for (turn, count) in TURNS.iter().zip(row) {
-                write!(out, ", {turn} {count}")?;
-            }
-            writeln!(out)?;
+            put_counts(out, &format!("rates of {rated}"), &TURNS, row)?;
         }
         writeln!(out, "rates missing {:?}", self.missing())
     }
@@ -250,6 +247,160 @@ fn turn(difference: i128, local_spread: u64) -> usize {
         Ordering::Equal if difference > 0 => HALF_ABOVE,
         Ordering::Equal => HALF_BELOW,
     }
+}
+
+/// What last happened to the ranking: a setup began it; a frame let a candidate enter it, rise, fall, or keep its place though something else changed;
+/// candidates left it with their links or by age; a link came up or a candidate's frame was refused with 7, 8 or 9, and it stayed as it was.
+const EVENTS: [&str; 9] = [
+    "set up", "entered", "rose", "fell", "kept", "lost", "aged", "linked", "refused",
+];
+const SET_UP: usize = 0;
+const ENTERED: usize = 1;
+const ROSE: usize = 2;
+const FELL: usize = 3;
+const KEPT: usize = 4;
+const LOST: usize = 5;
+const AGED: usize = 6;
+const LINKED: usize = 7;
+const REFUSED: usize = 8;
+/// What a place of the ranking shows: the chosen clock, the runner-up, a later candidate, or none as it is beyond the last.
+const SHOWN: [&str; 4] = ["chosen", "runner-up", "later", "beyond"];
+const RUNNER_UP: usize = 1;
+const LATER: usize = 2;
+const PAST_LAST: usize = 3;
+/// What is never shown after a setup, which leaves no candidate but the own clock.
+const NEVER_SHOWN: [(usize, usize); 2] = [(SET_UP, RUNNER_UP), (SET_UP, LATER)];
+/// What else lines of places should be at the least: of a ranking without a candidate, of one of two that differ in their port alone, of the ninth candidate, of a place with two digits, and no line.
+const PLACE_KINDS: [&str; 5] = ["empty", "tied", "ninth", "far", "no line"];
+const EMPTY: usize = 0;
+const TIED: usize = 1;
+const NINTH: usize = 2;
+const FAR: usize = 3;
+const NO_LINE: usize = 4;
+/// The place of the ninth candidate, after which there is none.
+const LAST_PLACE: usize = PORTS_MOST;
+/// The first place that has two digits.
+const FAR_PLACE: usize = 16;
+
+/// Counts of what places of the ranking showed, by what last happened to it.
+#[derive(Default)]
+pub struct RankingCensus {
+    ranking: Vec<Chosen>,
+    links: usize,
+    event: usize,
+    counts: [[u64; SHOWN.len()]; EVENTS.len()],
+    places: [u64; PLACE_KINDS.len()],
+}
+
+impl RankingCensus {
+    /// Counts a line with its answer where it asks for a place, and notes what another one did to the ranking.
+    pub fn count(&mut self, line: &[u8], reply: &[u8], bridge: &Listed) {
+        if let Some(place) = line.strip_prefix(b"K") {
+            match place.strip_prefix(b" ").and_then(hex::number) {
+                Some(place) if reply != b"0E" => self.count_place(place as usize),
+                _ => self.places[NO_LINE] += 1,
+            }
+            return;
+        }
+        let after = limits::ranking(bridge);
+        let links = bridge.ports.iter().filter(|port| port.linked).count();
+        if let Some(event) = self.event_of(line, reply, &after, links) {
+            self.event = event;
+        }
+        self.ranking = after;
+        self.links = links;
+    }
+
+    /// Gives what a line did to the ranking, where it did something that is counted.
+    fn event_of(&self, line: &[u8], reply: &[u8], after: &[Chosen], links: usize) -> Option<usize> {
+        let changed = self.ranking != after;
+        match line.first()? {
+            b'S' if reply != b"0E" => Some(SET_UP),
+            b'L' if changed => Some(LOST),
+            b'L' if links > self.links => Some(LINKED),
+            b'A' if changed => Some(AGED),
+            b'R' => {
+                let port = sampled_port(line)?;
+                let before = place_of(&self.ranking, port);
+                if changed {
+                    return Some(movement(before, place_of(after, port)));
+                }
+                before.filter(|_| (TOO_FAR..=BAD_DELAY).contains(&answer_of(reply)))?;
+                Some(REFUSED)
+            }
+            _ => None,
+        }
+    }
+
+    /// Counts what a place showed.
+    fn count_place(&mut self, place: usize) {
+        let shown = match self.ranking.get(place) {
+            Some(_) => place.min(LATER),
+            None => PAST_LAST,
+        };
+        self.counts[self.event][shown] += 1;
+        let kinds = [
+            (EMPTY, self.ranking.is_empty()),
+            (TIED, is_tied(&self.ranking, place)),
+            (NINTH, place == LAST_PLACE && shown == LATER),
+            (FAR, place >= FAR_PLACE),
+        ];
+        for (kind, found) in kinds {
+            self.places[kind] += u64::from(found);
+        }
+    }
+
+    /// Gives what was never seen.
+    pub fn missing(&self) -> Vec<String> {
+        let mut missing = Vec::new();
+        for (event, row) in self.counts.iter().enumerate() {
+            for (shown, count) in row.iter().enumerate() {
+                if *count == 0 && !NEVER_SHOWN.contains(&(event, shown)) {
+                    missing.push(format!("{} after {}", SHOWN[shown], EVENTS[event]));
+                }
+            }
+        }
+        for (kind, count) in PLACE_KINDS.iter().zip(self.places) {
+            if count == 0 {
+                missing.push(kind.to_string());
+            }
+        }
+        missing
+    }
+}
+
+impl fmt::Display for RankingCensus {
+    /// Prints a row for each event with a column for each thing shown, and a row of the other kinds of places.
+    fn fmt(&self, out: &mut fmt::Formatter) -> fmt::Result {
+        for (event, row) in EVENTS.iter().zip(&self.counts) {
+            put_counts(out, &format!("K after {event}"), &SHOWN, row)?;
+        }
+        put_counts(out, "K", &PLACE_KINDS, &self.places)?;
+        writeln!(out, "ranking missing {:?}", self.missing())
+    }
+}
+
+/// Gives the place of a port in a ranking.
+fn place_of(ranking: &[Chosen], port: u8) -> Option<usize> {
+    ranking.iter().position(|clock| clock.port == port)
+}
+
+/// Gives how a candidate that a frame was taken of moved from the place that it had, if it had one.
+fn movement(before: Option<usize>, after: Option<usize>) -> usize {
+    match before.zip(after) {
+        None => ENTERED,
+        Some((before, after)) if after < before => ROSE,
+        Some((before, after)) if after > before => FELL,
+        Some(_) => KEPT,
+    }
+}
+
+/// Says whether the candidate at a place of a ranking differs from the one before or after it in its port alone.
+fn is_tied(ranking: &[Chosen], place: usize) -> bool {
+    let key = |clock: &Chosen| (clock.precedence, clock.hop);
+    let at = |place: usize| ranking.get(place).map(key);
+    let ties = |other: Option<usize>| at(place).is_some() && other.and_then(at) == at(place);
+    ties(place.checked_sub(1)) || ties(place.checked_add(1))
 }
 
 /// The letters of the lines of timestamps and scales.
@@ -331,6 +482,15 @@ impl fmt::Display for TimestampCensus {
     }
 }
 
+/// Prints a row of counts, each after its name.
+fn put_counts(out: &mut fmt::Formatter, row: &str, names: &[&str], counts: &[u64]) -> fmt::Result {
+    write!(out, "{row}")?;
+    for (name, count) in names.iter().zip(counts) {
+        write!(out, ", {name} {count}")?;
+    }
+    writeln!(out)
+}
+
 /// Prints a row of numbers.
 fn put_row<T: fmt::Display>(out: &mut fmt::Formatter, name: &str, row: &[T]) -> fmt::Result {
     write!(out, "{name:<9}")?;
@@ -355,6 +515,7 @@ pub struct Census {
     stamps: StampCensus,
     hops: HopCensus,
     rates: RateCensus,
+    ranking: RankingCensus,
     timestamps: TimestampCensus,
 }
 
@@ -364,6 +525,7 @@ impl Census {
         self.lines += 1;
         self.hops.count(line, reply, bridge);
         self.rates.count(line, reply, bridge);
+        self.ranking.count(line, reply, bridge);
         self.timestamps.count(line, reply);
         if reply == b"0E" {
             self.bad += 1;
@@ -407,6 +569,7 @@ impl Census {
             && self.stamps.missing().is_empty()
             && self.hops.missing().is_empty()
             && self.rates.missing().is_empty()
+            && self.ranking.missing().is_empty()
             && self.timestamps.missing().is_empty()
             && self.stamps.counts[NOWHERE][usize::from(OUT_OF_RANGE)] > 0
     }
@@ -435,7 +598,7 @@ impl fmt::Display for Census {
         )?;
         writeln!(out, "B    part {}, none {}", self.parts, self.no_parts)?;
         writeln!(out, "D    readings {}", self.readings)?;
-        write!(out, "{}{}", self.hops, self.rates)?;
+        write!(out, "{}{}{}", self.hops, self.rates, self.ranking)?;
         writeln!(out, "no call (14) {}", self.bad)?;
         writeln!(out, "lines {}", self.lines)?;
         writeln!(out, "answers missing {:?}", self.missing())

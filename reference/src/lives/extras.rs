@@ -2,6 +2,7 @@
 
 use super::latches;
 use super::limits::{any_local, any_part, first_where, followed};
+use super::panel;
 use super::pen::Pen;
 use super::plans;
 use super::random::Random;
@@ -42,10 +43,17 @@ pub fn linked_port(pen: &mut Pen) -> Option<u8> {
 
 /// Asks something of the bridge that changes nothing.
 pub fn ask(pen: &mut Pen) {
-    if pen.random.often(400) {
-        pen.chosen();
-        return;
+    match pen.random.below(10) {
+        0..=2 => {
+            pen.chosen();
+        }
+        3 | 4 => panel::ask(pen),
+        _ => ask_drift(pen),
     }
+}
+
+/// Asks for the drift of the chosen clock or of any.
+fn ask_drift(pen: &mut Pen) {
     let port = match pen.bridge().best() {
         Some(chosen) if pen.random.often(500) => chosen.port,
         _ => any_port(pen),
@@ -120,6 +128,7 @@ pub fn edge_age(pen: &mut Pen) {
     };
     pen.age(moved(heard_at, later));
     pen.chosen();
+    panel::look(pen);
 }
 
 /// Reads, writes or compares frames.
@@ -229,6 +238,9 @@ pub fn wander(pen: &mut Pen) {
     } else if pen.random.often(200) {
         let plan = plans::good(&mut pen.random);
         pen.setup(&plan);
+    }
+    if pen.random.often(200) {
+        panel::look(pen);
     }
     let lines = pen.random.within(3, 25);
     for _ in 0..lines {

@@ -1,7 +1,7 @@
-//! What every part of a life aims by: numbers at the ends of their range, the samples that a bridge follows, and where something first holds.
+//! What every part of a life aims by: numbers at the ends of their range, the samples that a bridge follows, its links, its ranking, and where something first holds.
 
 use super::random::Random;
-use crate::bridge::{Listed, OWN};
+use crate::bridge::{Chosen, Listed, OWN};
 use crate::samples::Samples;
 use crate::times::{LOCAL_END, PART_END};
 
@@ -33,6 +33,22 @@ pub fn any_part(random: &mut Random) -> u64 {
 pub fn followed(bridge: &Listed) -> Samples {
     let port = bridge.best().map_or(OWN, |chosen| chosen.port);
     bridge.samples(port).copied().unwrap_or_default()
+}
+
+/// Gives the links of a bridge as a mask.
+pub fn links(bridge: &Listed) -> u8 {
+    let mut mask = 0;
+    for (bit, port) in bridge.ports.iter().enumerate() {
+        mask |= u8::from(port.linked) << bit;
+    }
+    mask
+}
+
+/// Gives the candidates of a bridge from best to worst.
+pub fn ranking(bridge: &Listed) -> Vec<Chosen> {
+    (0..=u8::MAX)
+        .map_while(|place| bridge.ranked_at(place))
+        .collect()
 }
 
 /// Finds the first of the numbers from low to high at which something holds that goes on to hold, where it is there.

@@ -7,9 +7,11 @@ pub(crate) mod latches;
 pub(crate) mod limits;
 pub mod listed;
 mod network;
+mod panel;
 mod pen;
 mod plans;
 pub(crate) mod random;
+mod rivals;
 mod spoil;
 pub mod stamped;
 mod timestamps;
@@ -20,9 +22,11 @@ use random::Random;
 use std::io;
 
 /// Of a hundred lives, how many are of a network of drifting neighbours.
-const NETWORK_SHARE: u64 = 62;
+const NETWORK_SHARE: u64 = 52;
 /// Of a hundred lives, how many are of frames aimed at the limits.
-const AIMED_SHARE: u64 = 28;
+const AIMED_SHARE: u64 = 23;
+/// Of a hundred lives, how many are of clocks that stand close to one another.
+const RIVALS_SHARE: u64 = 16;
 
 /// A taker of each line, its answer and the bridge after it.
 pub type Sink<'s> = &'s mut dyn FnMut(&[u8], &[u8], &Listed) -> io::Result<()>;
@@ -37,6 +41,8 @@ pub fn lives(lines: u64, seed: u64, sink: Sink) -> io::Result<()> {
             network::live(&mut pen);
         } else if kind < NETWORK_SHARE + AIMED_SHARE {
             aimed::live(&mut pen);
+        } else if kind < NETWORK_SHARE + AIMED_SHARE + RIVALS_SHARE {
+            rivals::live(&mut pen);
         } else {
             extras::wander(&mut pen);
         }

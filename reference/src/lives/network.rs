@@ -2,6 +2,7 @@
 
 use super::extras;
 use super::limits;
+use super::panel;
 use super::pen::Pen;
 use super::plans;
 use super::random::Random;
@@ -371,7 +372,8 @@ impl Network {
                 pen.age(now);
             }
             45..=64 => extras::ask(pen),
-            65..=94 => extras::edge_stamp(pen),
+            65..=89 => extras::edge_stamp(pen),
+            90..=94 => panel::look(pen),
             95..=98 => timestamps::ask(pen),
             _ => {}
         }
@@ -381,10 +383,7 @@ impl Network {
     fn change_links(&mut self, pen: &mut Pen) {
         let ports = self.neighbours.len() as u32;
         let all = ((1_u16 << ports) - 1) as u8;
-        let mut mask = 0;
-        for (bit, port) in pen.bridge().ports.iter().enumerate() {
-            mask |= u8::from(port.linked) << bit;
-        }
+        let mask = limits::links(pen.bridge());
         let wanted = match pen.random.below(5) {
             0 => all,
             3 => all.wrapping_add(1),
@@ -400,6 +399,7 @@ impl Network {
                 neighbour.restart(&mut pen.random);
             }
         }
+        panel::look(pen);
         if wanted != all && pen.random.often(500) {
             pen.chosen();
             self.time += i128::from(self.tick);
@@ -432,6 +432,7 @@ impl Network {
         self.time += i128::from(pen.random.within(most / 2, most + most / 8));
         if pen.random.often(600) {
             pen.age(self.clock.local(self.time));
+            panel::look(pen);
         }
     }
 

@@ -20,6 +20,8 @@ const SPOILED_SETUPS: u64 = 500;
 const SPOILED_TIMESTAMPS: u64 = 60;
 /// In a thousand lines with leap seconds, how many are led by a copy with these changed.
 const SPOILED_LEAPS: u64 = 60;
+/// In a thousand lines of places, how many are led by a copy with the place changed.
+const SPOILED_PLACES: u64 = 30;
 /// In a thousand numbers, how many are written with zeros before them.
 const PADDED: u64 = 40;
 /// In a thousand fields, how many are written with small letters.
@@ -247,6 +249,16 @@ impl<'s> Pen<'s> {
     /// Writes a question for the chosen clock.
     pub fn chosen(&mut self) -> Answer {
         self.letter(b'C');
+        self.play()
+    }
+
+    /// Writes a question for the candidate at a place of the ranking.
+    pub fn ranked(&mut self, place: u8) -> Answer {
+        self.letter(b'K');
+        self.number(u64::from(place));
+        if self.random.often(SPOILED_PLACES) {
+            self.lead(spoil::place);
+        }
         self.play()
     }
 

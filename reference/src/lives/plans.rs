@@ -19,8 +19,14 @@ pub fn precedence(random: &mut Random) -> u128 {
 
 /// Gives a plan that is taken.
 pub fn good(random: &mut Random) -> Plan {
+    let ports = random.pick(&[1, 1, 2, 2, 2, 3, 3, 4, 5, 6, 7, 8, 8]);
+    of_ports(random, ports)
+}
+
+/// Gives a plan of so many ports that is taken.
+pub fn of_ports(random: &mut Random, ports: u8) -> Plan {
     let mut plan = Plan {
-        ports: random.pick(&[1, 1, 2, 2, 2, 3, 3, 4, 5, 6, 7, 8, 8]),
+        ports,
         precedence: precedence(random),
         capable: random.often(350),
         timeout: timeout(random),

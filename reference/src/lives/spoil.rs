@@ -15,7 +15,7 @@ const NONSENSE_LONG: u64 = 70_000;
 /// What a line may wrongly contain.
 const STRANGE: &[u8] = b"\0\t\r gGmM-dDxX0fF+.#\x0B\x7F\x80\xC3\xFF";
 /// The letters of the calls and some others.
-const LETTERS: &[u8] = b"SLORACTDFWBslxZEM1-XIGUN";
+const LETTERS: &[u8] = b"SLORACTDFWBslxZEM1-XIGUNKk";
 
 /// Spoils a line, though not always so that it loses its form.
 pub fn line(random: &mut Random, line: &mut Vec<u8>) {
@@ -91,6 +91,27 @@ pub fn leap_seconds(random: &mut Random, line: &mut Vec<u8>) {
         b"0000000000000025",
     ];
     replace_field(line, 2, random.pick(&words));
+}
+
+/// Changes the place of a line, mostly so that it is no byte.
+pub fn place(random: &mut Random, line: &mut Vec<u8>) {
+    let words: [&[u8]; 14] = [
+        b"",
+        b"-",
+        b"-1",
+        b"00",
+        b"FF",
+        b"100",
+        b"101",
+        b"0100",
+        b"00000000000000fF",
+        b"0000000000000100",
+        b"00000000000000000",
+        b"FFFFFFFFFFFFFFFF",
+        b"0 0",
+        b"g",
+    ];
+    replace_field(line, 1, random.pick(&words));
 }
 
 /// Doubles the first space of a line.
