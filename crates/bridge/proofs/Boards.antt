@@ -30,14 +30,10 @@ use Rattle.bridge.specs.declared.Done.{Done}
 use Rattle.choice.proofs.PermutationLaws.{permutation-append, members-back}
 use Rattle.choice.proofs.CompareLaws.{best-permuted, best-parts, any-way}
 use Rattle.bridge.proofs.Keeps.{setup-lawful, run-lawful}
+use Rattle.bridge.proofs.Least.{chosen-best}
 use Rattle.bridge.proofs.Records.{setup-ports}
 use Rattle.bridge.proofs.Numbered.{numbers-parts, numbers-from, numbers-below, candidates-numbered, numbered-fits, candidates-fit}
 use Rattle.bridge.proofs.Beyond.{beyond-silent}
-
--- the choice is the best of the candidates
-chosen-best : (b : Bridge) → bestOf Nothing (candidates b) ≡ chosenOf b
-unfolding chosenOf bestOf betterOf
-chosen-best b = refl
 
 -- ---- what a call makes of the choice that it is given
 

@@ -29,9 +29,8 @@ use Rattle.bridge.specs.Chosen.{chosenOf}
 use Rattle.bridge.specs.declared.Bridge.{Bridge}
 use Rattle.bridge.specs.declared.Done.{Done}
 use Rattle.bridge.specs.declared.Linked.{Linked}
-use Rattle.numbers.proofs.Branches.{if-when}
+use Rattle.numbers.proofs.Branches.{if-when, if-both}
 use Rattle.port.proofs.PortLaws.{received-count, aged-count}
-use Rattle.bridge.proofs.StateLaws.{if-both}
 use Rattle.bridge.proofs.Records.{replaced, each-record, eight-ports, record-run}
 use Rattle.bridge.proofs.Sent.{wrote, wrote-count}
 

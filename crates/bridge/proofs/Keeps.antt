@@ -23,7 +23,7 @@ use Rattle.bridge.specs.Table.{each, portAt, mostPorts, relinkedPort}
 use Rattle.bridge.specs.Arguments.{bit, portRefusal, sendRefusal, ownClockRefusal, maskBeyond}
 use Rattle.bridge.specs.Fits.{leastTimeout, greatestTimeout, delaysFit, setupFits, noSetup}
 use Rattle.bridge.specs.declared.Setup.{Setup}
-use Rattle.bridge.specs.State.{TypedSetup, LawfulSetup, Lawful, stateOf, withPort, withLinks}
+use Rattle.bridge.specs.State.{TypedSetup, LawfulSetup, Lawful, withPort, withLinks, withClock}
 use Rattle.bridge.specs.Setup.{freshOf, setupOf}
 use Rattle.bridge.specs.Links.{linksOf}
 use Rattle.bridge.specs.Own.{ownClockOf}
@@ -50,26 +50,37 @@ LinkedNext d = Lawful (d .next)
 
 -- ---- a state by its parts
 
--- other links, another own clock and other records in a lawful state
-parts-kept : (b : Bridge) (mask : ℕ) (clock : OwnClock) (ports : List Port) → Lawful b → mask < 2 ^ b .setup .n → LawfulClock clock
-    → length ports ≡ length (b .ports) → ((i : ℕ) → LawfulPort (portAt ports i)) → Lawful (stateOf (b .setup) mask clock ports)
-parts-kept b mask clock ports h hl hc l hp = record {
+-- other links and other records in a lawful state
+parts-kept : (b : Bridge) (mask : ℕ) (ports : List Port) → Lawful b → mask < 2 ^ b .setup .n → length ports ≡ length (b .ports) → ((i : ℕ) → LawfulPort (portAt ports i))
+    → Lawful (withLinks b mask ports)
+parts-kept b mask ports h hl l hp = record {
   setup-lawful = h .setup-lawful;
   links-most = hl;
-  clock-lawful = hc;
+  ranking-kept = refl;
+  clock-lawful = h .clock-lawful;
   records = l ∙ h .records;
   ports-lawful = hp;
 }
 
-port-kept : (b : Bridge) (i : ℕ) (port : Port) → Lawful b → LawfulPort port → Lawful (withPort b i port)
+pub port-kept : (b : Bridge) (i : ℕ) (port : Port) → Lawful b → LawfulPort port → Lawful (withPort b i port)
 port-kept b i port h l =
-    parts-kept b (b .links) (b .clock) _ h (h .links-most) (h .clock-lawful) (length-set (b .ports) i port)
-    (set-all LawfulPort emptyPort empty-lawful (b .ports) i port l (h .ports-lawful))
+    parts-kept b (b .links) _ h (h .links-most) (length-set (b .ports) i port) (set-all LawfulPort emptyPort empty-lawful (b .ports) i port l (h .ports-lawful))
+
+-- another own clock
+clock-kept : (b : Bridge) (clock : OwnClock) → Lawful b → LawfulClock clock → Lawful (withClock b clock)
+clock-kept b clock h l = record {
+  setup-lawful = h .setup-lawful;
+  links-most = h .links-most;
+  ranking-kept = h .ranking-kept;
+  clock-lawful = l;
+  records = h .records;
+  ports-lawful = h .ports-lawful;
+}
 
 each-kept : (f : ℕ → Port → Port) (b : Bridge) (mask : ℕ) → Lawful b → mask < 2 ^ b .setup .n → ((k : ℕ) (p : Port) → LawfulPort p → LawfulPort (f k p))
     → Lawful (withLinks b mask (each f 0 (b .ports)))
 each-kept f b mask h hl g =
-    parts-kept b mask (b .clock) _ h hl (h .clock-lawful) (each-length f 0 (b .ports)) (each-all f LawfulPort emptyPort empty-lawful g 0 (b .ports) (h .ports-lawful))
+    parts-kept b mask _ h hl (each-length f 0 (b .ports)) (each-all f LawfulPort emptyPort empty-lawful g 0 (b .ports) (h .ports-lawful))
 
 -- ---- setup
 
@@ -77,6 +88,7 @@ fresh-lawful : (s : Setup) → LawfulSetup s → Lawful (freshOf s)
 fresh-lawful s h = record {
   setup-lawful = h;
   links-most = pow-pos (s .n);
+  ranking-kept = refl;
   clock-lawful = record { preceding = tt; samples = tt };
   records = refl;
   ports-lawful = λ i. rw (fresh-record mostPorts i) empty-lawful;
@@ -125,9 +137,8 @@ own-lawful b count seconds fraction at byte h =
     if-when Next (eqb (ownClockRefusal (b .setup .capable) seconds fraction at) 0)
     (λ e.
     let r = own-ready (b .setup .capable) seconds fraction at (eqb-true _ _ e) in
-    parts-kept b (b .links) _ (b .ports) h (h .links-most)
-    (own-reading-lawful count (record { 0 = seconds; 1 = fraction }) (record { 0 = at }) (b .clock) byte (r .time) (record { seconds = r .whole; fraction = r .part }) (h .clock-lawful))
-    refl (h .ports-lawful))
+    clock-kept b _ h
+    (own-reading-lawful count (record { 0 = seconds; 1 = fraction }) (record { 0 = at }) (b .clock) byte (r .time) (record { seconds = r .whole; fraction = r .part }) (h .clock-lawful)))
     (λ _. h)
 
 heard-lawful : (b : Bridge) (i : ℕ) (f : Fields) (at : LocalTime) → Lawful b → at .0 < circle → FieldsInRange f → Lawful (receiveFieldsOf (chosenOf b) b i f at .next)

@@ -86,6 +86,11 @@ best-least a (c ∷ cs) x m =
 
 -- ---- the choice
 
+-- it is the best of the candidates, compared one after the other
+pub chosen-best : (b : Bridge) → bestOf Nothing (candidates b) ≡ chosenOf b
+unfolding chosenOf bestOf betterOf
+chosen-best b = refl
+
 -- it is one of the candidates
 pub chosen-member : (b : Bridge) → List·Memᴰ (chosenOf b) (candidates b)
 unfolding chosenOf

@@ -29,6 +29,7 @@ use Rattle.bridge.specs.declared.Done.{Done}
 use Rattle.numbers.proofs.Branches.{if-when}
 use Rattle.frame.proofs.FrameLaws.{read-is}
 use Rattle.port.proofs.Leaves.{received-noted, own-reading-noted, sent-used}
+use Rattle.bridge.proofs.RankingLaws.{announced-kept}
 use Rattle.bridge.proofs.CheckLaws.{port-ready, send-ready, port-is, send-is, own-is}
 
 -- ---- one record stored
@@ -38,9 +39,15 @@ module _ (b : Bridge) (i : ℕ) (port : Port) where
   stored-there : i < length (b .ports) → portAt (withPort b i port .ports) i ≡ port
   stored-there h = getD-set-same (b .ports) i port emptyPort h
 
-  -- and all else is as before
-  stored-beside : BesideRecord i b (withPort b i port)
-  stored-beside = record { setup = refl; links = refl; clock = refl; others = λ j h. getD-set-other (b .ports) i j port emptyPort h }
+  -- and all else is as before, where it announces the same
+  stored-beside : Lawful b → port .announcement ≡ portAt (b .ports) i .announcement → BesideRecord i b (withPort b i port)
+  stored-beside lawful e = record {
+    setup = refl;
+    links = refl;
+    ranking = announced-kept b lawful i port e;
+    clock = refl;
+    others = λ j h. getD-set-other (b .ports) i j port emptyPort h;
+  }
 
 -- ---- Receive
 
@@ -64,10 +71,10 @@ receive-leaves b port frame arrival l =
     by zero m h q =
         let f = fieldsOf (rowsOf frame) in
         let d = receivedOf (settingAt b i) (chosenHop (chosenOf b)) f at (portAt (b .ports) i) in
+        let noted = received-noted (settingAt b i) (chosenHop (chosenOf b)) f at (portAt (b .ports) i) (λ z. omega (arith, z, q)) in
         record {
-          noted = subst (Noted (f .count) at (portAt (b .ports) i)) (sym (stored-there b i (d .port) h))
-              (received-noted (settingAt b i) (chosenHop (chosenOf b)) f at (portAt (b .ports) i) (λ z. omega (arith, z, q)));
-          beside = stored-beside b i (d .port);
+          noted = subst (Noted (f .count) at (portAt (b .ports) i)) (sym (stored-there b i (d .port) h)) noted;
+          beside = stored-beside b i (d .port) l (noted .announcement);
         }
     by (suc k) m h q = absurd (omega (arith, m, q))
 
@@ -81,7 +88,7 @@ own-clock-leaves b count seconds fraction at =
     if-when (λ (d : Done). d .answer ≡ 8 → ReadingNoted b count at (d .next)) (eqb (ownClockRefusal (b .setup .capable) seconds fraction at) 0)
     (λ _ e. record {
       noted = own-reading-noted count (record { 0 = seconds; 1 = fraction }) (record { 0 = at }) (b .clock) (λ z. omega (arith, e, z));
-      beside = record { setup = refl; links = refl; ports = refl };
+      beside = record { setup = refl; links = refl; ranking = refl; ports = refl };
     })
     (λ _ e. absurd (own-is (λ (k : ℕ). k ≡ 8 → ⊥) (b .setup .capable) seconds fraction at (λ e. omega arith) (λ e. omega arith) (λ e. omega arith) e))
 
@@ -97,6 +104,6 @@ send-leaves b port t room l =
     let r = send-ready (b .setup .n) (b .links) port t room (eqb-true _ _ e) .0 in
     record {
       used = subst (Used held) (sym (stored-there b (port - 1) (usedPort held) (omega (arith, r .low, r .high, l .setup-lawful .ports-most, l .records)))) (sent-used held);
-      beside = stored-beside b (port - 1) (usedPort held);
+      beside = stored-beside b (port - 1) (usedPort held) l (sent-used held .announcement);
     })
     (λ _ h. absurd (send-is (λ (k : ℕ). 10 ≤ k → ⊥) (b .setup .n) (b .links) port t room (λ h. omega arith) (λ h. omega arith) (λ h. omega arith) (λ h. omega arith) h))

@@ -1,5 +1,5 @@
 -- A promise and the equation with the call's definition: each follows from the other.
-use mathlib.Core.Path.{_≡_, refl, sym, ap, _∙_}
+use mathlib.Core.Path.{_≡_, refl, sym, ap, _∙_, subst}
 use mathlib.Core.List.{List, [], _∷_, map}
 use mathlib.Core.Option.{Option}
 use Prim.Native.Nat.{ℕ, suc, _≤_}
@@ -11,7 +11,8 @@ use Rattle.timeline.specs.Drift.{driftOf, driftNo, driftReading}
 use Rattle.timeline.specs.declared.Drift.{Drift}
 use Rattle.choice.specs.Choose.{ownCandidate, shownPort, shownHop}
 use Rattle.choice.specs.Rank.{CandidateFits}
-use Rattle.choice.specs.Least.{leastOf, portIn, hopIn}
+use Rattle.choice.specs.Least.{leastOf, rankIn, portIn, hopIn}
+use Rattle.choice.specs.Ranking.{IsClock, howManyBelow}
 use Rattle.choice.specs.declared.Candidate.{Candidate}
 use Rattle.choice.specs.declared.Candidate.the-variants.{Nothing, Clock}
 use Rattle.port.specs.declared.Port.{Port}
@@ -20,18 +21,20 @@ use Rattle.bridge.specs.Arguments.{maskBeyond}
 use Rattle.bridge.specs.State.{Lawful}
 use Rattle.bridge.specs.Links.{linksOf, linkNo, linkCount}
 use Rattle.bridge.specs.Chosen.{chosenOf, ranksFrom, leastRank}
+use Rattle.bridge.specs.Ranked.{rankedOf}
 use Rattle.bridge.specs.Send.{sendOf, sendBytes}
 use Rattle.bridge.specs.Drift.{driftAt}
-use Rattle.bridge.specs.Demands.{NoWorse}
-use Rattle.bridge.specs.Promises.{DonePromise, LinksPromise, ChosenPromise, SendPromise, DriftPromise}
+use Rattle.bridge.specs.Demands.{candidates, NoWorse}
+use Rattle.bridge.specs.Promises.{DonePromise, LinksPromise, ChosenPromise, RankedPromise, SendPromise, DriftPromise}
 use Rattle.bridge.specs.declared.Bridge.{Bridge}
 use Rattle.bridge.specs.declared.Done.{Done}
 use Rattle.bridge.specs.declared.Linked.{Linked}
+use Rattle.numbers.proofs.Branches.{if-both}
 use Rattle.timeline.proofs.DriftLaws.{drift-through, drift-refused}
-use Rattle.choice.proofs.LeastLaws.{rankIn, announced-rank, own-rank, rank-most, port-in-rank, hop-in-rank, least-is}
-use Rattle.bridge.proofs.StateLaws.{if-both}
+use Rattle.choice.proofs.LeastLaws.{announced-rank, own-rank, rank-most, port-in-rank, hop-in-rank, least-is}
 use Rattle.bridge.proofs.Keeps.{links-lawful, send-lawful}
 use Rattle.bridge.proofs.Least.{chosen-member, chosen-least}
+use Rattle.bridge.proofs.Ranking.{ranked-before, ranked-behind}
 
 -- ---- what is handed back is as wanted, and so it is as promised
 
@@ -74,6 +77,14 @@ chosen-out b c f e = record {
   answer = e;
   port = ap shownPort e ∙ port-in-rank (chosenOf b) f ∙ ap portIn (sym (least-rank b f));
   hop = ap shownHop e ∙ hop-in-rank (chosenOf b) f ∙ ap hopIn (sym (least-rank b f));
+}
+
+-- ranked
+pub ranked-out : (b : Bridge) (place : ℕ) (c : Candidate) → Lawful b → c ≡ rankedOf b place → RankedPromise b place c
+ranked-out b place c l e = record {
+  answer = e;
+  before = λ clock. ap (λ (x : Candidate). howManyBelow (rankIn x) (candidates b)) e ∙ ranked-before b l place (subst IsClock e clock);
+  behind = λ none. ranked-behind b l place (sym e ∙ none);
 }
 
 pub send-out : (b : Bridge) (port t : ℕ) (out left : List ℕ) (got : Done) → got ≡ sendOf b port t (length out) → left ≡ sendBytes b port t out → Lawful b

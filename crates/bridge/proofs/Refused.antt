@@ -35,11 +35,10 @@ use Rattle.bridge.specs.Send.{chosenSamples, sendingAt, sendOf, sendByte
 use Rattle.bridge.specs.Drift.{driftAt}
 use Rattle.bridge.specs.Demands.{From, ReadAnswers, WriteAnswers, SetupAnswers, LinksAnswers, AgeAnswers, OwnAnswers, ReceiveAnswers, SendAnswers, DriftAnswers}
 use Rattle.bridge.specs.declared.Bridge.{Bridge}
-use Rattle.numbers.proofs.Branches.{if-when}
+use Rattle.numbers.proofs.Branches.{if-when, if-both}
 use Rattle.frame.proofs.FrameLaws.{read-is, write-is}
 use Rattle.port.proofs.PortLaws.{received-is, own-reading-is, sending-is}
 use Rattle.bridge.proofs.CheckLaws.{port-is, send-is, own-is}
-use Rattle.bridge.proofs.StateLaws.{if-both}
 
 pub read-answers : (s : List ℕ) → ReadAnswers (readOf s)
 unfolding readOf

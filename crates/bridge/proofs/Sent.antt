@@ -32,12 +32,13 @@ use Rattle.bridge.specs.Send.{chosenSamples, sendingAt, sendOf, sendByte
 use Rattle.bridge.specs.Demands.{From, SentFields}
 use Rattle.bridge.specs.declared.Bridge.{Bridge}
 use Rattle.bridge.specs.declared.Done.{Done}
+use Rattle.numbers.proofs.Branches.{if-both}
 use Rattle.frame.proofs.FrameLaws.{filled}
 use Rattle.frame.proofs.Trip.{written-read, hop-byte, count-byte}
 use Rattle.port.proofs.PortLaws.{SentFor, sending-frame, sending-for, sending-written, sending-typed, received-is}
 use Rattle.bridge.proofs.CheckLaws.{Ready, send-ready}
 use Rattle.bridge.proofs.TableLaws.{chosen-lawful}
-use Rattle.bridge.proofs.StateLaws.{if-both, receive-read}
+use Rattle.bridge.proofs.StateLaws.{receive-read}
 use Rattle.bridge.proofs.Least.{chosen-member}
 use Rattle.bridge.proofs.Numbered.{candidates-fit}
 

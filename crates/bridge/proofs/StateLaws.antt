@@ -15,7 +15,8 @@ use Rattle.samples.specs.declared.Samples.{Samples}
 use Rattle.timeline.specs.declared.Drift.{Drift}
 use Rattle.timeline.specs.declared.Drift.the-variants as Drifts
 use Rattle.timeline.specs.Drift.{driftOf}
-use Rattle.choice.specs.Choose.{ownCandidate, numberOf, chosenHop}
+use Rattle.choice.specs.Choose.{candidateOf, ownCandidate, numberOf, chosenHop}
+use Rattle.choice.specs.Places.{Updates}
 use Rattle.choice.specs.declared.Candidate.{Candidate}
 use Rattle.choice.specs.declared.Candidate.the-variants as Candidates
 use Rattle.frame.specs.Read.{readOf}
@@ -23,6 +24,7 @@ use Rattle.frame.specs.declared.Reading.{Reading}
 use Rattle.frame.specs.declared.Fields.{Fields}
 use Rattle.port.specs.Receive.{receivedOf}
 use Rattle.port.specs.Record.{emptyPort, tooOld, agedPort}
+use Rattle.port.specs.Lawful.{LawfulPort}
 use Rattle.port.specs.Own.{ownReadingOf}
 use Rattle.port.specs.Send.{sendingOf, sendingDone, sendingBytes}
 use Rattle.port.specs.declared.Port.{Port}
@@ -48,6 +50,8 @@ use Rattle.bridge.specs.declared.LinkCount.the-variants.{Refused, Up}
 use Rattle.numbers.proofs.Branches.{if-true, if-false}
 use Rattle.port.proofs.PortLaws.{aged-fresh}
 use Rattle.bridge.proofs.TableLaws.{best-number, relinked-beyond}
+use Rattle.bridge.proofs.Keeps.{port-kept}
+use Rattle.bridge.proofs.RankingLaws.{ranking-stored, state-made, stored-made}
 use Rattle.bridge.proofs.Walk.{Walked, walked-start, walked-more, walked-same, walked-first}
 
 -- ---- a refusal k found before any record is looked at, whose definition is `want`: where it is none, and where it is one
@@ -73,26 +77,33 @@ module _ (s : Setup) where
   unfolding setupOf
   setup-refused e = if-false _ _ _ e
 
--- ---- a loop that changes the records where they are: of the state only they change, and those below i have
+-- ---- a loop that changes the records where they are: of the state only they change, and the ranking with them; those below i have
 
 pub record Stored (f : ℕ → Port → Port) (b : Bridge) (i : ℕ) (next : Bridge) : Type 0 where
   pub rest : next ≡ withPorts b (next .ports)
   pub walked : Walked f mostPorts (b .ports) i (next .ports)
+  pub lawful : Lawful next
 
 module _ (f : ℕ → Port → Port) (b : Bridge) where
-  pub stored-start : length (b .ports) ≡ mostPorts → Stored f b 0 b
-  stored-start e = record { rest = refl; walked = walked-start f mostPorts (b .ports) e }
+  pub stored-start : Lawful b → Stored f b 0 b
+  stored-start l = record { rest = state-made b l; walked = walked-start f mostPorts (b .ports) (l .records); lawful = l }
 
   module _ (i : ℕ) (next : Bridge) (s : Stored f b i next) where
-    pub stored-more : (q : Port) → i < mostPorts → q ≡ f i (portAt (next .ports) i) → Stored f b (i + 1) (withPort next i q)
-    stored-more q h e = record {
-      rest = ap (λ (x : Bridge). withPorts x (set (next .ports) i q)) (s .rest);
-      walked = walked-more f mostPorts (b .ports) i (next .ports) emptyPort q (s .walked) h e;
-    }
+    -- one more record is stored, once what it announces has taken its place in the ranking
+    pub stored-more : (q : Port) (numbers : List ℕ) → i < mostPorts → q ≡ f i (portAt (next .ports) i) → LawfulPort q
+        → Updates (i + 1) (candidateOf (i + 1) (q .announcement)) (next .ranking) numbers
+        → Stored f b (i + 1) (record { setup = next .setup; links = next .links; ranking = numbers; clock = next .clock; ports = set (next .ports) i q })
+    stored-more q numbers h e l updates =
+        subst (Stored f b (i + 1)) (sym (stored-made next i q numbers (ranking-stored next (s .lawful) i h q numbers updates)))
+        (record {
+          rest = ap (λ (x : Bridge). withPorts x (set (next .ports) i q)) (s .rest);
+          walked = walked-more f mostPorts (b .ports) i (next .ports) emptyPort q (s .walked) h e;
+          lawful = port-kept next i q (s .lawful) l;
+        })
 
     -- a record that is to stay as it is need not be stored
     pub stored-same : i < mostPorts → portAt (next .ports) i ≡ f i (portAt (next .ports) i) → Stored f b (i + 1) next
-    stored-same h e = record { rest = s .rest; walked = walked-same f mostPorts (b .ports) i (next .ports) emptyPort (s .walked) h e }
+    stored-same h e = record { rest = s .rest; walked = walked-same f mostPorts (b .ports) i (next .ports) emptyPort (s .walked) h e; lawful = s .lawful }
 
     -- all have changed where every record from i on is to stay as it is
     pub stored-all : ((k : ℕ) → i ≤ k → k < mostPorts → portAt (next .ports) k ≡ f k (portAt (next .ports) k)) → next ≡ withPorts b (each f 0 (b .ports))

@@ -1,4 +1,4 @@
--- Laws of the table: the choice as a walk over the ports, a port whose link changes, whose samples a number means, and the settings of the first ports.
+-- Laws of the table: the number of the choice, a port whose link changes, whose samples a number means, and the settings of the first ports.
 use mathlib.Core.Path.{_≡_, refl, sym, ap, _∙_}
 use mathlib.Core.Bool.{Bool, true, false, _&&_}
 use mathlib.Core.List.{List, [], _∷_}
@@ -26,16 +26,7 @@ use Rattle.bridge.specs.Table.{portAt, losesLink, relinkedPort, samplesA
 use Rattle.bridge.specs.Fits.{delayFits, delaysFit}
 use Rattle.numbers.proofs.Branches.{if-true, if-false, if-when}
 
--- ---- the choice, port by port
-
-pub best-turn : (ports : List Port) (i : ℕ) (d : Port) (choice next : Candidate) → i < length ports → next ≡ betterOf choice (candidateOf (i + 1) (getD ports i d .announcement))
-    → bestOf next (candidatesFrom (i + 1 + 1) (drop (i + 1) ports)) ≡ bestOf choice (candidatesFrom (i + 1) (drop i ports))
-unfolding bestOf candidatesFrom
-best-turn ports i d choice next h e = rw (e, add-one (i + 1), add-one i, drop-cons ports i d)
-
-pub best-end : (ports : List Port) (i : ℕ) (choice : Candidate) → length ports ≡ i → bestOf choice (candidatesFrom (i + 1) (drop i ports)) ≡ choice
-unfolding bestOf candidatesFrom
-best-end ports i choice e = rw (← e, drop-length)
+-- ---- the choice
 
 -- the number of the choice is that of a candidate
 pub best-number : (k : ℕ) (ports : List Port) (choice : Candidate) → numberOf choice ≤ k + length ports → numberOf (bestOf choice (candidatesFrom (suc k) ports)) ≤ k + length ports

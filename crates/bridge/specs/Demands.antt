@@ -25,7 +25,7 @@ use Rattle.timeline.specs.Drift.{million, driftNo}
 use Rattle.timeline.specs.declared.Drift.{Drift}
 use Rattle.timeline.specs.declared.Sent.the-variants.{At}
 use Rattle.choice.specs.Hop.{lastHop}
-use Rattle.choice.specs.Choose.{rankOf, ownCandidate, numberOf}
+use Rattle.choice.specs.Choose.{rankOf, numberOf}
 use Rattle.choice.specs.declared.Precedence.{Precedence}
 use Rattle.choice.specs.declared.Announcement.{Announcement}
 use Rattle.choice.specs.declared.Announcement.the-variants.{Announced}
@@ -40,7 +40,7 @@ use Rattle.port.specs.Record.{usedPort}
 use Rattle.port.specs.Receive.{notedPort}
 use Rattle.port.specs.Send.{frameOf}
 use Rattle.port.specs.declared.Preceding.the-variants.{Was}
-use Rattle.bridge.specs.Table.{portAt, samplesAt, candidatesFrom}
+use Rattle.bridge.specs.Table.{portAt, samplesAt, candidatesOf}
 use Rattle.bridge.specs.Arguments.{bit, sendRefusal, maskBeyond}
 use Rattle.bridge.specs.State.{withPort, withClock, answers}
 use Rattle.bridge.specs.Setup.{noBridge}
@@ -145,7 +145,7 @@ pub record ExactDrift (b : Bridge) (port : ℕ) (x : Float) : Type 0 where
 
 -- own clock first, then the ports
 abbrev pub candidates : Bridge → List Candidate
-candidates b = ownCandidate (b .setup .capable) (b .setup .own) ∷ candidatesFrom 1 (b .ports)
+candidates b = candidatesOf (b .setup .capable) (b .setup .own) (b .ports)
 
 -- x is no worse than y: y is no candidate, or both are and x has no greater rank
 abbrev pub NoWorse : Candidate → Candidate → Type 0

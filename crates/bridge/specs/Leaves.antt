@@ -12,6 +12,7 @@ use Rattle.bridge.specs.declared.Bridge.{Bridge}
 pub record BesideRecord (i : ℕ) (b left : Bridge) : Type 0 where
   pub setup : left .setup ≡ b .setup
   pub links : left .links ≡ b .links
+  pub ranking : left .ranking ≡ b .ranking
   pub clock : left .clock ≡ b .clock
   pub others : (j : ℕ) → j ≢ i → portAt (left .ports) j ≡ portAt (b .ports) j
 
@@ -19,6 +20,7 @@ pub record BesideRecord (i : ℕ) (b left : Bridge) : Type 0 where
 pub record BesideClock (b left : Bridge) : Type 0 where
   pub setup : left .setup ≡ b .setup
   pub links : left .links ≡ b .links
+  pub ranking : left .ranking ≡ b .ranking
   pub ports : left .ports ≡ b .ports
 
 -- Receive, refused with 7 to 9: frameCount is byte 30 of the frame

@@ -1,6 +1,7 @@
 pub mod Arguments
 pub mod Table
 pub mod Fits
+pub mod Ranking
 pub mod State
 pub mod Setup
 pub mod Links
@@ -8,6 +9,7 @@ pub mod Own
 pub mod Receive
 pub mod Age
 pub mod Chosen
+pub mod Ranked
 pub mod Send
 pub mod Drift
 pub mod Order

@@ -3,7 +3,7 @@ use mathlib.Core.Path.{_≡_}
 use mathlib.Core.Bool.{cond}
 use mathlib.Core.List.{List}
 use mathlib.Core.Option.{none}
-use Prim.Native.Nat.{ℕ}
+use Prim.Native.Nat.{ℕ, _≤_}
 use lib.Count.{ones}
 use lib.Dec.{ltb}
 use lib.ListN.{length}
@@ -12,15 +12,19 @@ use Rattle.samples.specs.Keep.{endsOf}
 use Rattle.timeline.specs.Drift.{driftNo, driftReading, readingThrough}
 use Rattle.timeline.specs.declared.Drift.{Drift}
 use Rattle.choice.specs.Choose.{shownPort, shownHop}
-use Rattle.choice.specs.Least.{portIn, hopIn}
+use Rattle.choice.specs.Least.{rankIn, portIn, hopIn}
+use Rattle.choice.specs.Ranking.{IsClock, clocksIn, howManyBelow}
 use Rattle.choice.specs.declared.Candidate.{Candidate}
+use Rattle.choice.specs.declared.Candidate.the-variants.{Nothing}
 use Rattle.bridge.specs.Table.{samplesAt}
 use Rattle.bridge.specs.Arguments.{maskBeyond}
 use Rattle.bridge.specs.State.{Lawful}
 use Rattle.bridge.specs.Links.{linksOf, linkNo, linkCount}
 use Rattle.bridge.specs.Chosen.{chosenOf, leastRank}
+use Rattle.bridge.specs.Ranked.{rankedOf}
 use Rattle.bridge.specs.Send.{sendOf, sendBytes}
 use Rattle.bridge.specs.Drift.{driftAt}
+use Rattle.bridge.specs.Demands.{candidates}
 use Rattle.bridge.specs.declared.Bridge.{Bridge}
 use Rattle.bridge.specs.declared.Done.{Done}
 use Rattle.bridge.specs.declared.Linked.{Linked}
@@ -44,6 +48,12 @@ pub record ChosenPromise (b : Bridge) (c : Candidate) : Type 0 where
   pub answer : c ≡ chosenOf b
   pub port : shownPort c ≡ portIn (leastRank b)
   pub hop : shownHop c ≡ hopIn (leastRank b)
+
+-- ranked: the candidate of the table that has so many better ones, none where there are no more than that
+pub record RankedPromise (b : Bridge) (place : ℕ) (c : Candidate) : Type 0 where
+  pub answer : c ≡ rankedOf b place
+  pub before : IsClock c → howManyBelow (rankIn c) (candidates b) ≡ place
+  pub behind : c ≡ Nothing → length (clocksIn (candidates b)) ≤ place
 
 -- send, with every byte of the output
 pub record SendPromise (b : Bridge) (port t : ℕ) (out : List ℕ) (d : Done) (left : List ℕ) : Type 0 where

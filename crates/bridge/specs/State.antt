@@ -15,6 +15,7 @@ use Rattle.port.specs.declared.PortDone.{PortDone}
 use Rattle.port.specs.declared.ClockDone.{ClockDone}
 use Rattle.bridge.specs.Table.{portAt, mostPorts}
 use Rattle.bridge.specs.Fits.{greatestTimeout, delaysFit}
+use Rattle.bridge.specs.Ranking.{keptRanking}
 use Rattle.bridge.specs.declared.Setup.{Setup}
 use Rattle.bridge.specs.declared.Bridge.{Bridge}
 use Rattle.bridge.specs.declared.Done.{Done}
@@ -35,19 +36,20 @@ pub record LawfulSetup (s : Setup) : Type 0 where
   pub back-small : s .sender .back < longestElapsed
   pub delays-fit : delaysFit (take (s .n) (s .settings)) ≡ true
 
--- what holds of every number in a state that Setup or a call hands back
+-- what holds of every number in a state that Setup or a call hands back; and the ranking that it keeps is the one made afresh from its table
 pub record Lawful (b : Bridge) : Type 0 where
   pub setup-lawful : LawfulSetup (b .setup)
   pub links-most : b .links < 2 ^ b .setup .n
+  pub ranking-kept : b .ranking ≡ keptRanking (b .setup) (b .ports)
   pub clock-lawful : LawfulClock (b .clock)
   pub records : length (b .ports) ≡ mostPorts
   pub ports-lawful : (i : ℕ) → LawfulPort (portAt (b .ports) i)
 
--- a state by its parts: every state that is made or changed is made here
+-- a state by its parts, its ranking made afresh: every state that is made, or whose records change, is made here
 abbrev pub stateOf : Setup → ℕ → OwnClock → List Port → Bridge
-stateOf setup links clock ports = record { setup = setup; links = links; clock = clock; ports = ports }
+stateOf setup links clock ports = record { setup = setup; links = links; ranking = keptRanking setup ports; clock = clock; ports = ports }
 
--- a state with other records, another own clock, other links
+-- a state with other records, another own clock (which leaves the ranking), other links
 abbrev pub withPorts : Bridge → List Port → Bridge
 withPorts b ports = stateOf (b .setup) (b .links) (b .clock) ports
 
@@ -55,7 +57,7 @@ abbrev pub withPort : Bridge → ℕ → Port → Bridge
 withPort b i port = withPorts b (set (b .ports) i port)
 
 abbrev pub withClock : Bridge → OwnClock → Bridge
-withClock b clock = stateOf (b .setup) (b .links) clock (b .ports)
+withClock b clock = record { setup = b .setup; links = b .links; ranking = b .ranking; clock = clock; ports = b .ports }
 
 abbrev pub withLinks : Bridge → ℕ → List Port → Bridge
 withLinks b mask ports = stateOf (b .setup) mask (b .clock) ports

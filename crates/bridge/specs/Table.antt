@@ -41,7 +41,11 @@ unfoldable pub candidatesFrom : ℕ → List Port → List Candidate
 candidatesFrom k [] = []
 candidatesFrom k (p ∷ ps) = candidateOf k (p .announcement) ∷ candidatesFrom (suc k) ps
 
--- own clock first, then the ports
+-- all candidates: own clock first, then the ports
+abbrev pub candidatesOf : Bool → Precedence → List Port → List Candidate
+candidatesOf capable own ports = ownCandidate capable own ∷ candidatesFrom 1 ports
+
+-- the best of them
 abbrev pub choiceOf : Bool → Precedence → List Port → Candidate
 choiceOf capable own ports = bestOf (ownCandidate capable own) (candidatesFrom 1 ports)
 

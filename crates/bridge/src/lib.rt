@@ -25,10 +25,11 @@ pub struct Setup {
     pub settings: [Setting; 8],
 }
 
-// The whole state: what Setup was given, the links, the own clock's record and the ports' records.
+// The whole state: what Setup was given, the links, the ranking of all candidates, the own clock's record and the ports' records.
 pub struct Bridge {
     pub setup: Setup,
     pub links: u8,
+    pub ranking: [u64; 18],
     pub clock: OwnClock,
     pub ports: [Port; 8],
 }

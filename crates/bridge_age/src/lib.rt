@@ -7,7 +7,7 @@ use bridge::Done;
 use port::record;
 use times::LocalTime;
 
-// Age: announcements as old as the timeout go, with samples and echo; where none is so old, no record is stored.
+// Age: announcements as old as the timeout go, with samples, echo and their place in the ranking; where none is so old, no record is stored.
 pub fn age(b: Bridge, at: u64) -> Done
     requires { ⌜ Lawful b ⌝ }
     ensures { λ r. ⌜ DonePromise (ageOf b at) r ⌝ }
@@ -28,7 +28,10 @@ pub fn age(b: Bridge, at: u64) -> Done
             let mut i: usize = 0;
             while i < bridge::PORTS {
                 let held = next.ports[i];
-                next.ports[i] = record::aged(held, LocalTime(at), timeout);
+                let after = record::aged(held, LocalTime(at), timeout);
+                let announcement = after.announcement;
+                choice_ranking::update(&mut next.ranking, announcement, (i + 1) as u8);
+                next.ports[i] = after;
                 i += 1;
             }
         }

@@ -7,6 +7,7 @@ ghost use Rattle.bridge.specs.Promises.{LinksPromise};
 use bridge::Bridge;
 use bridge::LinkCount;
 use bridge::Linked;
+use choice::Announcement;
 use port::record;
 
 // Whether the port at index i loses its link where the links were `links` and are `mask`.
@@ -20,7 +21,7 @@ fn loses_link(links: u8, mask: u8, i: usize) -> bool
     false
 }
 
-// Links: the ports that have a link are the set bits of the mask; a port that loses its link loses its record, and no other record is stored.
+// Links: the ports that have a link are the set bits of the mask; a port that loses its link loses its record and its place in the ranking, and no other record is stored.
 pub fn links(b: Bridge, mask: u8) -> Linked
     requires { ⌜ Lawful b ⌝ }
     ensures { λ r. ⌜ LinksPromise b mask r ⌝ }
@@ -32,6 +33,7 @@ pub fn links(b: Bridge, mask: u8) -> Linked
         let mut i: usize = 0;
         while i < end {
             if loses_link(b.links, mask, i) {
+                choice_ranking::update(&mut next.ranking, Announcement::Silent, (i + 1) as u8);
                 next.ports[i] = record::empty();
             }
             i += 1;

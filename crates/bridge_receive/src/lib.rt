@@ -5,10 +5,9 @@ ghost use Rattle.bridge.specs.Promises.{DonePromise};
 use bridge::Bridge;
 use bridge::Done;
 use frame::Reading;
-use port::record;
 use times::LocalTime;
 
-// Receive: a frame that arrived at a port.
+// Receive: a frame that arrived at a port. What the port announces takes its place in the ranking before its record is stored.
 pub fn receive(b: Bridge, port: u8, frame: &[u8], arrival: u64) -> Done
     requires { ⌜ Lawful b ⌝ }
     ensures { λ r. ⌜ DonePromise (receiveOf b port (now (frame .entry)) arrival) r ⌝ }
@@ -21,23 +20,20 @@ pub fn receive(b: Bridge, port: u8, frame: &[u8], arrival: u64) -> Done
                 answer = unread;
             }
             Reading::Frame(f) => {
-                let own = next.setup.own;
-                let mut best = choice_ranks::own(next.setup.capable, own);
-                let mut k: usize = 0;
-                while k < bridge::PORTS {
-                    let port_record = next.ports[k];
-                    best = record::lesser(best, port_record, (k + 1) as u8);
-                    k += 1;
-                }
-                let hop = choice_candidates::chosen_hop(choice_ranks::candidate(best));
+                let choice = choice_ranking::candidate_at(&next.ranking, choice_ranking::CHOSEN);
+                let hop = choice_candidates::chosen_hop(choice);
                 let i = (port - 1) as usize;
                 let held = next.ports[i];
                 let settings = next.setup.settings;
                 let setting = settings[i];
                 let received = port_receive::receive(held, setting, hop, f, LocalTime(arrival));
                 let after = received.port;
-                next.ports[i] = after;
                 answer = received.answer;
+                if answer == refusals::DONE {
+                    let announcement = after.announcement;
+                    choice_ranking::update(&mut next.ranking, announcement, port);
+                }
+                next.ports[i] = after;
             }
         }
     }

@@ -3,7 +3,6 @@ ghost use Rattle.bridge.specs.State.{Lawful};
 ghost use Rattle.bridge.specs.Promises.{SendPromise};
 use bridge::Bridge;
 use bridge::Done;
-use port::record;
 use times::LocalTime;
 
 // Send: fills the output with the port's next frame, whose preceding one departed at t.
@@ -14,15 +13,7 @@ pub fn send(b: Bridge, port: u8, t: u64, out: &mut [u8]) -> Done
     let mut next = b;
     let mut answer = bridge_arguments::send_refusal(b.setup.n, b.links, port, t, out.len());
     if answer == refusals::DONE {
-        let own = next.setup.own;
-        let mut best = choice_ranks::own(next.setup.capable, own);
-        let mut k: usize = 0;
-        while k < bridge::PORTS {
-            let port_record = next.ports[k];
-            best = record::lesser(best, port_record, (k + 1) as u8);
-            k += 1;
-        }
-        let choice = choice_ranks::candidate(best);
+        let choice = choice_ranking::candidate_at(&next.ranking, choice_ranking::CHOSEN);
         let number = choice_candidates::number(choice);
         let clock = next.clock;
         let mut samples = clock.samples;

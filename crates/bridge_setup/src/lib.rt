@@ -39,15 +39,18 @@ pub fn plain_setup(n: u8, timeout: u64, back: u64) -> Setup
     }
 }
 
-// A state with this setup, all links down and all records empty.
+// A state with this setup, all links down and all records empty: of the candidates there is the own clock alone.
 fn fresh(s: Setup) -> Bridge
     ensures { λ r. ⌜ r ≡ freshOf s ⌝ }
 {
     let clock = record::empty_clock();
     let port = record::empty();
+    let own = s.own;
+    let ranking = choice_ranking::alone(s.capable, own);
     Bridge {
         setup: s,
         links: 0,
+        ranking: ranking,
         clock: clock,
         ports: [port; 8],
     }

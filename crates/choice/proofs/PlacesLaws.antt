@@ -20,7 +20,7 @@ use Rattle.choice.specs.declared.Candidate.the-variants.{Nothing, Clock}
 use Rattle.choice.specs.declared.Rank.{Rank}
 use Rattle.numbers.proofs.Branches.{if-true, if-false, if-when, if-both}
 use Rattle.choice.proofs.RankLaws.{same-order, clock-below, candidate-named, rank-candidate}
-use Rattle.choice.proofs.RankingLaws.{Under, numbers, ordered-same, place-member, without-members, without-there, without-ordered, without-none, placed-members, placed-there, with-ordered}
+use Rattle.choice.proofs.RankingLaws.{Under, numbers, ordered-same, place-member, behind-last, without-members, without-there, without-ordered, without-none, placed-members, placed-there, with-ordered}
 
 -- each of a list has its bits
 abbrev Fit : List Candidate → Type 0
@@ -243,12 +243,6 @@ kept-whole {s} (l, k) = ap length (k .is) ∙ places-length places l
 -- the rank at a place is that of the candidate there
 pub kept-rank : {s : List ℕ} {l : List Candidate} → Keeps s l → (i : ℕ) → i < places → Ranks (rankAt s i) (rankedAt l i)
 kept-rank {s} {l} k i h = record { is = ap (λ (x : List ℕ). rankAt x i) (k .is) ∙ place-rank places l i h; fits = ranked-fits l (k .fits) i }
-
--- behind the last there is none
-behind-last : (l : List Candidate) (i : ℕ) → length l ≤ i → Nothing ≡ rankedAt l i
-behind-last [] i h = refl
-behind-last (c ∷ l) zero h = absurd (omega arith)
-behind-last (c ∷ l) (suc i) h = behind-last l i (omega (arith, h))
 
 -- so what is read at a place is the candidate there
 pub kept-candidate : {s : List ℕ} {l : List Candidate} → Keeps s l → (i : ℕ) → candidateIn s i ≡ rankedAt l i

@@ -6,7 +6,7 @@ use mathlib.Core.Logic.{_⊎_, inl, inr, ⊎-elim}
 use Prim.Native.Nat.{ℕ, zero, suc, _+_, _%_, _<_, _≤_}
 use native.Mathlib.Nat.{lt-trans, le-of-lt, add-zero, zero-add}
 use native.Mathlib.Omega.{arith}
-use borrow.Author.Tests.{ltb-true, ltb-false, eqb-true, eqb-false, eq-eqb, ne-eqb, le-ltb}
+use borrow.Author.Tests.{ltb-true, ltb-false, eqb-true, eqb-false, eq-eqb, ne-eqb, le-ltb, lt-ltb}
 use lib.Dec.{ltb, eqb}
 use lib.ListN.{length}
 use Rattle.choice.specs.Precedence.{keyOf}
@@ -14,7 +14,7 @@ use Rattle.choice.specs.Choose.{rankOf, betterOf, bestOf, numberOf}
 use Rattle.choice.specs.Rank.{CandidateFits}
 use Rattle.choice.specs.Least.{noRank, rankIn}
 use Rattle.choice.specs.Permutation.{Permutation, empty, placed}
-use Rattle.choice.specs.Ranking.{insertedOf, placedOf, rankingOf, rankedAt, Ordered, IsClock, clocksIn, withoutNumber, withCandidate}
+use Rattle.choice.specs.Ranking.{insertedOf, placedOf, rankingOf, rankedAt, Ordered, IsClock, clocksIn, isBelow, howManyBelow, withoutNumber, withCandidate}
 use Rattle.choice.specs.declared.Precedence.{Precedence}
 use Rattle.choice.specs.declared.Candidate.{Candidate}
 use Rattle.choice.specs.declared.Candidate.the-variants.{Nothing, Clock}
@@ -189,7 +189,19 @@ place-member [] i h = absurd (omega arith)
 place-member (y ∷ l) zero h = List·Memᴰ·head refl
 place-member (y ∷ l) (suc i) h = List·Memᴰ·tail (place-member l i (omega (arith, h)))
 
--- and so is a clock that stands at any
+-- behind the last stands none
+pub behind-last : (l : List Candidate) (i : ℕ) → length l ≤ i → Nothing ≡ rankedAt l i
+behind-last [] i h = refl
+behind-last (c ∷ l) zero h = absurd (omega arith)
+behind-last (c ∷ l) (suc i) h = behind-last l i (omega (arith, h))
+
+-- so a place at which a clock stands is one of the list's
+pub clock-within : (l : List Candidate) (i : ℕ) → IsClock (rankedAt l i) → i < length l
+clock-within [] i c = absurd c
+clock-within (y ∷ l) zero c = omega arith
+clock-within (y ∷ l) (suc i) c = omega (arith, clock-within l i c)
+
+-- and the clock is one of the list
 at-member : (l : List Candidate) (i : ℕ) {x : Candidate} → IsClock x → rankedAt l i ≡ x → List·Memᴰ x l
 at-member [] i c e = absurd (subst IsClock (sym e) c)
 at-member (y ∷ l) zero c e = List·Memᴰ·head (sym e)
@@ -223,6 +235,16 @@ ranking-ordered k (Clock p h n ∷ l) (u, f) room = inserted-ordered (Clock p h 
         let (above, below) = numbered-small (suc k) l f (ranked-member l m .0) in
         let same : n ≡ j = same-number p h n q g j (omega (arith, u, room)) (omega (arith, below, room)) e in
         omega (arith, same, u, above)
+
+-- what has the number of another is that
+pub numbered-once : (l : List Candidate) → Numbered 0 l → (x y : Candidate) → List·Memᴰ x (rankingOf l) → List·Memᴰ y (rankingOf l) → numberOf x ≡ numberOf y → x ≡ y
+numbered-once l f Nothing y m n q = absurd (ranked-member l m .1)
+numbered-once l f (Clock p h i) Nothing m n q = absurd (ranked-member l n .1)
+numbered-once l f (Clock p h i) (Clock p' h' i') m n q =
+    let (k, number, _, at) = numbered-at 0 l f (ranked-member l m .0) in
+    let (k', number', _, at') = numbered-at 0 l f (ranked-member l n .0) in
+    let place : k ≡ k' = omega (arith, number, number', q) in
+    sym at ∙ ap (rankedAt l) place ∙ at'
 
 -- ---- the only such list
 
@@ -258,6 +280,53 @@ pub ranking-head : (l : List Candidate) → Numbered 0 l → length l ≤ number
 ranking-head l f room fits =
     sym (ordered-best (rankingOf l) (ranking-ordered 0 l f (omega (arith, room))) (λ x m. ranked-member l m .1))
     ∙ best-same (rankingOf l) l (λ x m. fits x (ranked-member l m .0)) fits (λ x m. inr (ranked-member l m .0)) (none-or-ranked l)
+
+-- ---- how many are before a place
+
+inserted-below : (r : ℕ) (c : Candidate) (l : List Candidate) → howManyBelow r (insertedOf c l) ≡ isBelow r c + howManyBelow r l
+unfolding insertedOf howManyBelow
+inserted-below r c [] = refl
+inserted-below r c (y ∷ l) =
+    if-when (λ (k : List Candidate). howManyBelow r k ≡ isBelow r c + (isBelow r y + howManyBelow r l)) (ltb (rankIn c) (rankIn y))
+    (λ _. refl)
+    (λ _. omega (arith, inserted-below r c l))
+
+-- as many of the ranking as of the list
+pub ranking-below : (r : ℕ) (l : List Candidate) → howManyBelow r (rankingOf l) ≡ howManyBelow r l
+unfolding rankingOf placedOf howManyBelow
+ranking-below r [] = refl
+ranking-below r (Nothing ∷ l) = omega (arith, ranking-below r l)
+ranking-below r (Clock p h n ∷ l) = omega (arith, inserted-below r (Clock p h n) (rankingOf l), ranking-below r l)
+
+-- none of those that have no lesser rank
+none-below : (r : ℕ) (l : List Candidate) → ((x : Candidate) → List·Memᴰ x l → r ≤ rankIn x) → howManyBelow r l ≡ 0
+unfolding howManyBelow
+none-below r [] above = refl
+none-below r (Nothing ∷ l) above = omega (arith, none-below r l (λ x m. above x (List·Memᴰ·tail m)))
+none-below r (Clock p h n ∷ l) above =
+    let here : isBelow r (Clock p h n) ≡ 0 = sym (if-false _ 1 0 (le-ltb (rankOf p h n) r (above (Clock p h n) (List·Memᴰ·head refl)))) in
+    omega (arith, here, none-below r l (λ x m. above x (List·Memᴰ·tail m)))
+
+-- of a list in order, as many as stand before a place
+pub ordered-below : (l : List Candidate) → Ordered l → ((x : Candidate) → List·Memᴰ x l → IsClock x) → (i : ℕ) → i < length l → howManyBelow (rankIn (rankedAt l i)) l ≡ i
+unfolding howManyBelow
+ordered-below [] o clocks i h = absurd (omega arith)
+ordered-below (Nothing ∷ l) o clocks i h = absurd (clocks Nothing (List·Memᴰ·head refl))
+ordered-below (Clock p h n ∷ l) (first, o) clocks zero within =
+    let here : isBelow (rankOf p h n) (Clock p h n) ≡ 0 = sym (if-false _ 1 0 (le-ltb (rankOf p h n) (rankOf p h n) (omega arith))) in
+    omega (arith, here, none-below (rankOf p h n) l (λ x m. le-of-lt (first x m)))
+ordered-below (Clock p h n ∷ l) (first, o) clocks (suc i) within =
+    let r = rankIn (rankedAt l i) in
+    let small : i < length l = omega (arith, within) in
+    let here : isBelow r (Clock p h n) ≡ 1 = sym (if-true _ 1 0 (lt-ltb (rankOf p h n) r (first (rankedAt l i) (place-member l i small)))) in
+    omega (arith, here, ordered-below l o (λ x m. clocks x (List·Memᴰ·tail m)) i small)
+
+-- as many as there are clocks in the list
+pub ranking-count : (l : List Candidate) → length (rankingOf l) ≡ length (clocksIn l)
+unfolding rankingOf placedOf clocksIn
+ranking-count [] = refl
+ranking-count (Nothing ∷ l) = ranking-count l
+ranking-count (Clock p h n ∷ l) = inserted-length (Clock p h n) (rankingOf l) ∙ ap suc (ranking-count l)
 
 -- ---- one candidate taken out
 
@@ -372,18 +441,6 @@ abbrev Second : List Candidate → List Candidate → Type 0
 Second l ranked = rankedAt ranked 1 ≡ bestOf Nothing (withoutNumber (numberOf (rankedAt ranked 0)) l)
 
 module _ (l : List Candidate) (f : Numbered 0 l) (room : length l ≤ numbers) (fits : AllFit l) where
-  -- what has the number of the first is the first
-  first-number : (c : Candidate) (r : List Candidate) → rankingOf l ≡ c ∷ r → (x : Candidate) → List·Memᴰ x (rankingOf l) → numberOf x ≡ numberOf c → x ≡ c
-  first-number c r e x m q = by x c m (subst (List·Memᴰ c) (sym e) (List·Memᴰ·head refl)) q where
-    by : (x y : Candidate) → List·Memᴰ x (rankingOf l) → List·Memᴰ y (rankingOf l) → numberOf x ≡ numberOf y → x ≡ y
-    by Nothing y m n q = absurd (ranked-member l m .1)
-    by (Clock p h i) Nothing m n q = absurd (ranked-member l n .1)
-    by (Clock p h i) (Clock p' h' i') m n q =
-        let (k, number, _, at) = numbered-at 0 l f (ranked-member l m .0) in
-        let (k', number', _, at') = numbered-at 0 l f (ranked-member l n .0) in
-        let place : k ≡ k' = omega (arith, number, number', q) in
-        sym at ∙ ap (rankedAt l) place ∙ at'
-
   second-is : (ranked : List Candidate) → rankingOf l ≡ ranked → Second l ranked
   unfolding bestOf
   second-is [] e =
@@ -396,7 +453,7 @@ module _ (l : List Candidate) (f : Numbered 0 l) (room : length l ≤ numbers) (
       sym (ordered-best r ordered (λ x m. ranked-member l (of-ranking x m) .1))
       ∙ best-same r (withoutNumber n l) (λ x m. fits x (ranked-member l (of-ranking x m) .0)) (λ x m. fits x (without-members n l m .0))
       (λ x m. inr (without-there n l (ranked-member l (of-ranking x m) .0)
-      (λ q. omega (arith, subst (λ (y : Candidate). rankIn c < rankIn y) (first-number c r e x (of-ranking x m) q) (first x m)))))
+      (λ q. omega (arith, subst (λ (y : Candidate). rankIn c < rankIn y) (numbered-once l f x c (of-ranking x m) (subst (List·Memᴰ c) (sym e) (List·Memᴰ·head refl)) q) (first x m)))))
       (λ x m.
       let (there, other) = without-members n l m in
       ⊎-elim inl (λ s. ⊎-elim (λ q. absurd (other (ap numberOf q))) inr (List·Memᴰ·cases-cons (subst (List·Memᴰ x) e s))) (none-or-ranked l x there))

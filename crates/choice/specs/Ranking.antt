@@ -1,10 +1,10 @@
 -- The ranking: the clocks among some candidates, from best to worst.
 use mathlib.Core.Bool.{cond}
 use mathlib.Core.List.{List, [], _∷_, List·Memᴰ}
-use Prim.Native.Nat.{ℕ, _<_}
+use Prim.Native.Nat.{ℕ, _+_, _<_}
 use lib.Dec.{ltb, eqb}
 use lib.ListN.{getD}
-use Rattle.choice.specs.Choose.{numberOf}
+use Rattle.choice.specs.Choose.{rankOf, numberOf}
 use Rattle.choice.specs.Least.{rankIn}
 use Rattle.choice.specs.declared.Candidate.{Candidate}
 use Rattle.choice.specs.declared.Candidate.the-variants.{Nothing, Clock}
@@ -45,6 +45,15 @@ unfoldable pub clocksIn : List Candidate → List Candidate
 clocksIn [] = []
 clocksIn (Nothing ∷ l) = clocksIn l
 clocksIn (Clock precedence hop number ∷ l) = Clock precedence hop number ∷ clocksIn l
+
+-- how many clocks of a list have a rank below r
+abbrev pub isBelow : ℕ → Candidate → ℕ
+isBelow r Nothing = 0
+isBelow r (Clock precedence hop number) = cond (ltb (rankOf precedence hop number) r) 1 0
+
+unfoldable pub howManyBelow : ℕ → List Candidate → ℕ
+howManyBelow r [] = 0
+howManyBelow r (c ∷ l) = isBelow r c + howManyBelow r l
 
 -- ---- one candidate changed
 

@@ -15,6 +15,9 @@ const PLACES: usize = 9;
 
 const LAST_PLACE: usize = 16;
 
+// The place of the best.
+pub const CHOSEN: usize = 0;
+
 // Both numbers at a place where there is no candidate.
 const LAST: u64 = 0xFFFF_FFFF_FFFF_FFFF;
 

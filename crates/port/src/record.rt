@@ -1,14 +1,11 @@
-// Records that are empty, and that lose what is too old; the rank and the samples in one.
+// Records that are empty, and that lose what is too old; the samples in one.
 ghost use mathlib.Core.Path.{_≡_};
 ghost use mathlib.Core.Bool.{true, cond};
-ghost use Rattle.choice.specs.Choose.{candidateOf};
-ghost use Rattle.choice.specs.Rank.{inNumbers, CandidateFits, lesserOf};
 ghost use Rattle.port.specs.Record.{emptyPort, emptyClock, tooOld, agedPort};
 use crate::OwnClock;
 use crate::Port;
 use crate::Preceding;
 use choice::Announcement;
-use choice::Rank;
 use samples::Pair;
 use samples::Samples;
 use times::LocalTime;
@@ -78,15 +75,6 @@ pub fn aged(port: Port, at: LocalTime, timeout: u64) -> Port
         };
     }
     port
-}
-
-// The lesser of a rank and that of the clock announced in the record of the port with this number.
-pub fn lesser(best: Rank, port: Port, number: u8) -> Rank
-    ensures { λ r. ⌜ r ≡ lesserOf best (inNumbers (candidateOf number (port .announcement))) ⌝ }
-    ensures { λ _. ⌜ CandidateFits (candidateOf number (port .announcement)) ⌝ }
-{
-    let announcement = port.announcement;
-    choice_ranks::lesser(best, announcement, number)
 }
 
 // The samples in a record.
