@@ -7,10 +7,10 @@ use Prim.Native.Nat.{ℕ, zero, suc, _+_, _<_, _≤_}
 use native.Mathlib.Nat.{add-zero}
 use native.Mathlib.Numerals.{add-one}
 use native.Mathlib.Omega.{arith}
-use lib.ListN.{length, set, length-set}
+use lib.ListN.{length, set, replicate, length-set}
 use lib.Seq.{getD-set-same, getD-set-other}
 use Rattle.choice.specs.Choose.{candidateOf, ownCandidate}
-use Rattle.choice.specs.Ranking.{rankingOf, rankedAt, withCandidate}
+use Rattle.choice.specs.Ranking.{placedOf, rankingOf, rankedAt, withCandidate}
 use Rattle.choice.specs.Places.{places, placesOf, Keeps, Updates}
 use Rattle.choice.specs.declared.Precedence.{Precedence}
 use Rattle.choice.specs.declared.Announcement.{Announcement}
@@ -64,6 +64,11 @@ from-there k (p ∷ ports) zero = ap (λ (n : ℕ). candidateOf n (p .announceme
 from-there k (p ∷ ports) (suc i) =
     let next : suc k + i ≡ k + suc i = omega arith in
     from-there (suc k) ports i ∙ ap (λ (n : ℕ). candidateOf n (portAt ports i .announcement)) next
+
+-- where no port announces anything there is the own clock alone
+pub fresh-alone : (setup : Setup) → placesOf places (placedOf (ownCandidate (setup .capable) (setup .own)) []) ≡ keptRanking setup (replicate mostPorts emptyPort)
+unfolding rankingOf placedOf candidatesFrom candidateOf
+fresh-alone setup = refl
 
 -- ---- one port changes
 
@@ -127,17 +132,18 @@ module _ (b : Bridge) (lawful : Lawful b) where
   announced-kept i port e = ap (placesOf places) (same-announced (b .setup) (b .ports) i port e) ∙ sym (lawful .ranking-kept)
 
   -- what a port announces takes its place in it
-  pub ranking-stored : (i : ℕ) → i < mostPorts → (port : Port) (numbers : List ℕ) → Updates (i + 1) (candidateOf (i + 1) (port .announcement)) (b .ranking) numbers
-      → numbers ≡ withPort b i port .ranking
-  ranking-stored i h port numbers updates =
+  pub ranking-stored : (i number : ℕ) → i < mostPorts → number ≡ i + 1 → (port : Port) (numbers : List ℕ)
+      → Updates number (candidateOf number (port .announcement)) (b .ranking) numbers → numbers ≡ withPort b i port .ranking
+  ranking-stored i number h e port numbers updates =
       let capable = b .setup .capable in
       let own = b .setup .own in
       let there = changed-there capable own (b .ports) i port (omega (arith, h, lawful .records)) in
       let after = candidatesOf capable own (set (b .ports) i port) in
       let as-many : length after ≡ places = candidates-length capable own (set (b .ports) i port) ∙ ap suc (length-set (b .ports) i port ∙ lawful .records) in
-      updates ranking ranking-keeps (omega (arith, h))
+      updates ranking ranking-keeps (omega (arith, h, e))
       ∙ ap (placesOf places)
-      (ap (λ (c : Candidate). withCandidate (i + 1) c ranking) (sym there)
+      (ap (λ (n : ℕ). withCandidate n (candidateOf n (port .announcement)) ranking) e
+      ∙ ap (λ (c : Candidate). withCandidate (i + 1) c ranking) (sym there)
       ∙ sym (ranking-changed (candidates b) after numbered (candidates-under capable own (set (b .ports) i port)) (omega (arith, nine)) (omega (arith, as-many)) (i + 1) (omega (arith, h))
       (changed-others capable own (b .ports) i port)))
 
@@ -151,3 +157,8 @@ state-made b lawful = λ j. record { setup = b .setup; links = b .links; ranking
 pub stored-made : (b : Bridge) (i : ℕ) (port : Port) (numbers : List ℕ) → numbers ≡ withPort b i port .ranking
     → record { setup = b .setup; links = b .links; ranking = numbers; clock = b .clock; ports = set (b .ports) i port } ≡ withPort b i port
 stored-made b i port numbers e = λ j. record { setup = b .setup; links = b .links; ranking = e j; clock = b .clock; ports = set (b .ports) i port }
+
+-- and where it announces the same, the ranking that was
+pub stored-kept : (b : Bridge) → Lawful b → (i : ℕ) (port : Port) → port .announcement ≡ portAt (b .ports) i .announcement
+    → record { setup = b .setup; links = b .links; ranking = b .ranking; clock = b .clock; ports = set (b .ports) i port } ≡ withPort b i port
+stored-kept b lawful i port e = stored-made b i port (b .ranking) (sym (announced-kept b lawful i port e))

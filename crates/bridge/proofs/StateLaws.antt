@@ -17,6 +17,7 @@ use Rattle.timeline.specs.declared.Drift.the-variants as Drifts
 use Rattle.timeline.specs.Drift.{driftOf}
 use Rattle.choice.specs.Choose.{candidateOf, ownCandidate, numberOf, chosenHop}
 use Rattle.choice.specs.Places.{Updates}
+use Rattle.choice.specs.declared.Announcement.the-variants.{Silent}
 use Rattle.choice.specs.declared.Candidate.{Candidate}
 use Rattle.choice.specs.declared.Candidate.the-variants as Candidates
 use Rattle.frame.specs.Read.{readOf}
@@ -48,7 +49,7 @@ use Rattle.bridge.specs.declared.Bridge.{Bridge}
 use Rattle.bridge.specs.declared.Done.{Done}
 use Rattle.bridge.specs.declared.LinkCount.the-variants.{Refused, Up}
 use Rattle.numbers.proofs.Branches.{if-true, if-false}
-use Rattle.port.proofs.PortLaws.{aged-fresh}
+use Rattle.port.proofs.PortLaws.{empty-lawful, aged-fresh}
 use Rattle.bridge.proofs.TableLaws.{best-number, relinked-beyond}
 use Rattle.bridge.proofs.Keeps.{port-kept}
 use Rattle.bridge.proofs.RankingLaws.{ranking-stored, state-made, stored-made}
@@ -94,12 +95,20 @@ module _ (f : ℕ → Port → Port) (b : Bridge) where
         → Updates (i + 1) (candidateOf (i + 1) (q .announcement)) (next .ranking) numbers
         → Stored f b (i + 1) (record { setup = next .setup; links = next .links; ranking = numbers; clock = next .clock; ports = set (next .ports) i q })
     stored-more q numbers h e l updates =
-        subst (Stored f b (i + 1)) (sym (stored-made next i q numbers (ranking-stored next (s .lawful) i h q numbers updates)))
+        subst (Stored f b (i + 1)) (sym (stored-made next i q numbers (ranking-stored next (s .lawful) i (i + 1) h refl q numbers updates)))
         (record {
           rest = ap (λ (x : Bridge). withPorts x (set (next .ports) i q)) (s .rest);
           walked = walked-more f mostPorts (b .ports) i (next .ports) emptyPort q (s .walked) h e;
           lawful = port-kept next i q (s .lawful) l;
         })
+
+    -- one that is emptied announces nothing
+    pub stored-emptied : (q : Port) (numbers : List ℕ) → i < mostPorts → q ≡ emptyPort → emptyPort ≡ f i (portAt (next .ports) i)
+        → Updates (i + 1) (candidateOf (i + 1) Silent) (next .ranking) numbers
+        → Stored f b (i + 1) (record { setup = next .setup; links = next .links; ranking = numbers; clock = next .clock; ports = set (next .ports) i q })
+    stored-emptied q numbers h e empties updates =
+        stored-more q numbers h (e ∙ empties) (subst LawfulPort (sym e) empty-lawful)
+        (subst (λ (p : Port). Updates (i + 1) (candidateOf (i + 1) (p .announcement)) (next .ranking) numbers) (sym e) updates)
 
     -- a record that is to stay as it is need not be stored
     pub stored-same : i < mostPorts → portAt (next .ports) i ≡ f i (portAt (next .ports) i) → Stored f b (i + 1) next
@@ -144,10 +153,10 @@ module _ (b : Bridge) (mask : ℕ) where
 
   -- the records from n on stay, for their ports have no link to lose
   pub links-done : (i : ℕ) (next : Bridge) → maskBeyond (b .setup .n) mask ≡ false → Stored relinksBy b i next → b .setup .n ≤ i → b .links < 2 ^ b .setup .n
-      → linked (Up (ones mask)) (withLinks next mask (next .ports)) ≡ linksOf b mask
+      → linked (Up (ones mask)) (record { setup = next .setup; links = mask; ranking = next .ranking; clock = next .clock; ports = next .ports }) ≡ linksOf b mask
   unfolding linksOf
   links-done i next e s h l =
-      ap (λ (x : Bridge). linked (Up (ones mask)) (withLinks x mask (x .ports)))
+      ap (λ (x : Bridge). linked (Up (ones mask)) (record { setup = x .setup; links = mask; ranking = x .ranking; clock = x .clock; ports = x .ports }))
       (stored-all relinksBy b i next s (λ k m _. relinked-beyond (b .links) mask k _ (b .setup .n) l (omega arith)))
       ∙ if-false _ _ _ e
 

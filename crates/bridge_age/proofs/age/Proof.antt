@@ -1,15 +1,18 @@
 -- By the local time; where no announcement is too old nothing is stored, else the records below i are aged and the others are as they were.
 use Prim.Native.Nat.{ℕ, _-_, _≤_}
 use mathlib.Core.Bool.{false}
-use mathlib.Core.Path.{sym, _∙_}
+use mathlib.Core.Path.{sym, _∙_, subst}
 use native.Mathlib.Omega.{arith}
 use borrow.Author.Needs.{needs}
 use borrow.Author.Tests.{not-true, not-false}
+use Rattle.port.specs.Lawful.{LawfulPort}
+use Rattle.port.proofs.PortLaws.{aged-lawful}
 use Rattle.bridge.specs.Table.{mostPorts}
 use Rattle.bridge.specs.State.{answers}
 use Rattle.bridge.specs.Age.{ageOf}
 use Rattle.bridge.specs.Promises.{DonePromise}
 use Rattle.bridge.specs.declared.Bridge.{Bridge}
+use Rattle.bridge.proofs.RankingLaws.{ranking-keeps}
 use Rattle.bridge.proofs.StateLaws.{Stored, stored-start, stored-more, agesBy, NoneOld, none-old-more, age-refused, age-done}
 use Rattle.bridge.proofs.Keeps.{age-lawful}
 use Rattle.bridge.proofs.PromiseLaws.{out}
@@ -57,7 +60,7 @@ none-old c =
     (more 3 _ _ (omega arith)
     (more 2 _ _ (omega arith)
     (more 1 _ _ (omega arith)
-    (more 0 false _ (omega arith) (λ _. stored-start _ _ (s .pre .records)) (c1 .finds-old .ensures))
+    (more 0 false _ (omega arith) (λ _. stored-start _ _ (s .pre)) (c1 .finds-old .ensures))
     (c2 .finds-old2 .ensures))
     (c3 .finds-old3 .ensures))
     (c4 .finds-old4 .ensures))
@@ -66,14 +69,22 @@ none-old c =
     (c7 .finds-old7 .ensures))
     (c .finds-old8 .ensures)
 
+-- back from where the ranking is updated to the turn's start
+abbrev turn : tie.After-update Inv-loop μ-loop → tie.In-loop Inv-loop μ-loop
+turn c = c .before .before .before .before
+
 loop-holds : tie.Need-loop-holds Inv-loop μ-loop
-loop-holds c = stored-start _ _ (ranged (c .before) .before .before .pre .records)
+loop-holds c = stored-start _ _ (ranged (c .before) .before .before .pre)
+
+update-requires : tie.Need-update-requires Inv-loop μ-loop
+update-requires c κs = (_, ranking-keeps _ (c .before .before .before .before .loop .inv .lawful))
 
 loop-again : tie.Need-loop-again Inv-loop μ-loop
 loop-again c =
-    let t = c .before .before in
+    let t = turn c in
     let l = t .before .loop in
-    stored-more _ _ (l .i) _ (l .inv) _ (t .loop-test .taken) (c .aged .ensures)
+    let aged = c .before .before .aged .ensures in
+    stored-more _ _ (l .i) _ (l .inv) _ _ (t .loop-test .taken) aged (subst LawfulPort (sym aged) (aged-lawful _ _ _ (l .inv .lawful .ports-lawful (l .i)))) (c .update .ensures)
 
 -- where all records have aged, what is handed back is as promised
 done : (c : tie.After-finds-old8 Inv-loop μ-loop) (i : ℕ) (next : Bridge) →
@@ -121,10 +132,13 @@ age-spec =
     (λ c. record { fits = omega (arith, c .loop-test .taken) })
     (λ c. omega (arith, c .loop-test .taken))
     (λ c κs. search needs)
-    (λ c. record { fits = omega (arith, c .before .before .loop-test .taken) })
-    (λ c. omega (arith, c .before .before .loop-test .taken))
-    (λ c. record { fits = omega (arith, c .before .before .loop-test .taken) })
-    (λ c. omega (arith, c .before .before .loop-test .taken))
+    (λ c. record { fits = omega (arith, c .before .before .before .loop-test .taken) })
+    (λ c. record { fits = omega (arith, c .before .before .before .loop-test .taken) })
+    update-requires
+    (λ c. record { fits = omega (arith, turn c .loop-test .taken) })
+    (λ c. omega (arith, turn c .loop-test .taken))
+    (λ c. record { fits = omega (arith, turn c .loop-test .taken) })
+    (λ c. omega (arith, turn c .loop-test .taken))
     loop-again
     returns
     returns-2

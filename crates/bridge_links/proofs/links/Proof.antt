@@ -8,7 +8,8 @@ use borrow.Author.Tests.{not-true, not-false}
 use lib.Count.{ones-le}
 use Rattle.bridge.specs.Table.{mostPorts}
 use Rattle.bridge.proofs.TableLaws.{relinked-lost, relinked-kept}
-use Rattle.bridge.proofs.StateLaws.{Stored, stored-start, stored-more, stored-same, relinksBy, links-refused, links-done}
+use Rattle.bridge.proofs.RankingLaws.{ranking-keeps}
+use Rattle.bridge.proofs.StateLaws.{Stored, stored-start, stored-emptied, stored-same, relinksBy, links-refused, links-done}
 use Rattle.bridge.proofs.PromiseLaws.{links-out}
 use Rattle.bridge_links.proofs.links.Statement.{statement}
 use Rattle.bridge_links.proofs.links.Tie as tie
@@ -24,7 +25,10 @@ below : (c : tie.In-loop Inv-loop μ-loop) → c .before .loop .i < mostPorts
 below c = omega (arith, c .loop-test .taken, c .before .before .before .before .before .pre .setup-lawful .ports-most)
 
 loop-holds : tie.Need-loop-holds Inv-loop μ-loop
-loop-holds c = stored-start _ _ (c .before .before .before .pre .records)
+loop-holds c = stored-start _ _ (c .before .before .before .pre)
+
+update-requires : tie.Need-update-requires Inv-loop μ-loop
+update-requires c κs = (_, ranking-keeps _ (c .before .before .before .before .loop .inv .lawful))
 
 loop-again : tie.Need-loop-again Inv-loop μ-loop
 loop-again c =
@@ -32,7 +36,7 @@ loop-again c =
     let l = t .before .before .loop in
     let h = below (t .before) in
     ⊎-elim
-    (λ w. rw (w .2) (stored-more _ _ (l .i) _ (l .inv) _ h (w .1 .ensures ∙ relinked-lost _ _ _ _ (sym (t .loses-link .ensures) ∙ w .0 .taken))))
+    (λ w. rw (w .4) (stored-emptied _ _ (l .i) _ (l .inv) _ _ h (w .3 .ensures) (relinked-lost _ _ _ _ (sym (t .loses-link .ensures) ∙ w .0 .taken)) (w .2 .ensures)))
     (λ w. rw (w .1) (stored-same _ _ (l .i) _ (l .inv) h (relinked-kept _ _ _ _ (sym (t .loses-link .ensures) ∙ w .0 .left))))
     (c .if2 .came)
 
@@ -58,9 +62,12 @@ links-spec =
     (λ c. search needs)
     loop-holds
     (λ c κs. below c)
+    (λ c. omega (arith, below (c .before .before .before)))
+    (λ c. omega (arith, below (c .before .before .before)))
+    update-requires
     (λ c κs. search needs)
-    (λ c. record { fits = omega (arith, below (c .before .before .before)) })
-    (λ c. below (c .before .before .before))
+    (λ c. record { fits = omega (arith, below (c .before .before .before .before .before)) })
+    (λ c. below (c .before .before .before .before .before))
     (λ c. record { fits = omega (arith, below (c .before .before)) })
     (λ c. omega (arith, below (c .before .before)))
     loop-again
