@@ -3,32 +3,51 @@
 use mathlib.Core.Path.{_≡_, refl, sym, ap, _∙_, subst}
 use mathlib.Core.Bool.{Bool, true, false}
 use mathlib.Core.List.{List, List·Memᴰ}
-use Prim.Native.Nat.{ℕ, suc, _+_, _<_, _≤_}
+use Prim.Native.Nat.{ℕ, zero, suc, _+_, _<_, _≤_}
+use native.Mathlib.Numerals.{add-one}
 use native.Mathlib.Omega.{arith}
-use borrow.Author.Tests.{ltb-true, ltb-false}
-use lib.Dec.{ltb}
-use lib.ListN.{length}
-use Rattle.choice.specs.Choose.{bestOf, numberOf}
+use borrow.Author.Tests.{ltb-true, ltb-false, le-leb, eq-eqb, ne-eqb}
+use lib.Dec.{ltb, leb, eqb}
+use lib.ListN.{length, List·getD-eq-default}
+use Rattle.times.specs.Times.{circle, sinceOf}
+use Rattle.times.specs.declared.LocalTime.{LocalTime}
+use Rattle.choice.specs.Choose.{candidateOf, bestOf, numberOf, shownPort}
 use Rattle.choice.specs.Least.{rankIn}
 use Rattle.choice.specs.Permutation.{Permutation}
 use Rattle.choice.specs.Ranking.{rankedAt, Ordered, IsClock, clocksIn, howManyBelow, withoutNumber}
 use Rattle.choice.specs.Places.{places, candidateIn, Keeps}
+use Rattle.choice.specs.declared.Precedence.{Precedence}
+use Rattle.choice.specs.declared.Announcement.the-variants.{Silent, Announced}
+use Rattle.choice.specs.declared.Announcement.{Announcement}
 use Rattle.choice.specs.declared.Candidate.{Candidate}
 use Rattle.choice.specs.declared.Candidate.the-variants.{Nothing, Clock}
+use Rattle.port.specs.Record.{emptyPort, tooOld, agedPort}
+use Rattle.port.specs.declared.Port.{Port}
+use Rattle.bridge.specs.Table.{each, portAt, mostPorts, losesLink, relinkedPort}
+use Rattle.bridge.specs.Arguments.{bit, maskBeyond}
 use Rattle.bridge.specs.Ranking.{freshRanking, keptRanking}
-use Rattle.bridge.specs.State.{TypedSetup, Lawful}
+use Rattle.bridge.specs.State.{TypedSetup, Lawful, withLinks}
 use Rattle.bridge.specs.Setup.{setupOf}
+use Rattle.bridge.specs.Links.{linksOf, linkNo}
+use Rattle.bridge.specs.Age.{ageOf}
 use Rattle.bridge.specs.Chosen.{chosenOf}
 use Rattle.bridge.specs.Ranked.{rankedOf}
-use Rattle.bridge.specs.Demands.{candidates, Call, run}
+use Rattle.bridge.specs.Demands.{candidates, NotShown, Call, run}
 use Rattle.bridge.specs.declared.Setup.{Setup}
 use Rattle.bridge.specs.declared.Bridge.{Bridge}
-use Rattle.choice.proofs.RankingLaws.{ranked-member, place-member, clock-within, ranking-permutation, ranking-only, ranking-head, ranking-second, ordered-once, ranking-below, ordered-below, ranking-count}
+use Rattle.bridge.specs.declared.Done.{Done}
+use Rattle.bridge.specs.declared.Linked.{Linked}
+use Rattle.numbers.proofs.Branches.{if-when}
+use Rattle.port.proofs.PortLaws.{aged-old}
+use Rattle.choice.proofs.RankingLaws.{numbered-at, ranked-member, place-member, clock-within, ranking-permutation, ranking-only, ranking-head, ranking-second, second-next, ordered-once, ranking-below, ordered-below, ranking-count}
 use Rattle.choice.proofs.PlacesLaws.{kept-candidate}
-use Rattle.bridge.proofs.Keeps.{setup-lawful, run-lawful}
+use Rattle.bridge.proofs.Keeps.{setup-lawful, links-lawful, age-lawful, run-lawful}
+use Rattle.bridge.proofs.Walk.{each-length}
+use Rattle.bridge.proofs.Records.{each-record}
+use Rattle.bridge.proofs.TableLaws.{relinked-lost, relinked-kept}
 use Rattle.bridge.proofs.Least.{chosen-best}
 use Rattle.bridge.proofs.Numbered.{candidates-fit}
-use Rattle.bridge.proofs.RankingLaws.{numbered, nine, ranking-keeps}
+use Rattle.bridge.proofs.RankingLaws.{candidate-there, numbered, nine, ranking-keeps}
 
 -- ---- in a lawful state
 
@@ -91,3 +110,103 @@ module _ (b : Bridge) (lawful : Lawful b) where
 
 pub run-ranking : (s : Setup) (cs : List Call) → TypedSetup s → let b = run (setupOf s .next) cs in b .ranking ≡ keptRanking (b .setup) (b .ports)
 run-ranking s cs typed = run-lawful (setupOf s .next) cs (setup-lawful s typed) .ranking-kept
+
+-- ---- a port that announces nothing
+
+-- what stands under its number is none
+silent-none : (b : Bridge) (i : ℕ) → portAt (b .ports) i .announcement ≡ Silent → rankedAt (candidates b) (i + 1) ≡ Nothing
+unfolding candidateOf
+silent-none b i e = candidate-there b i ∙ ap (candidateOf (i + 1)) e
+
+-- so no place shows it
+silent-not-shown : (b : Bridge) → Lawful b → (i : ℕ) → i < mostPorts → portAt (b .ports) i .announcement ≡ Silent → NotShown b i
+unfolding rankedOf shownPort
+silent-not-shown b lawful i h e place = by (rankedAt (freshRanking (b .setup) (b .ports)) place) refl
+  where
+    by : (c : Candidate) → rankedAt (freshRanking (b .setup) (b .ports)) place ≡ c → shownPort c ≡ i + 1 → ⊥
+    by Nothing q shown = omega (arith, shown, h)
+    by (Clock p g n) q shown =
+        let within = clock-within (freshRanking (b .setup) (b .ports)) place (subst IsClock (sym q) tt) in
+        let there = subst (λ (x : Candidate). List·Memᴰ x (freshRanking (b .setup) (b .ports))) q (place-member (freshRanking (b .setup) (b .ports)) place within) in
+        let (j, number, _, at) = numbered-at 0 (candidates b) (numbered b lawful) (ranked-member (candidates b) there .0) in
+        let index : j ≡ i + 1 = omega (arith, number, shown) in
+        subst IsClock (sym at ∙ ap (rankedAt (candidates b)) index ∙ silent-none b i e) tt
+
+-- A LINK THAT GOES DOWN: the port is shown at no place after that call
+pub lost-not-shown : (b : Bridge) (mask i : ℕ) → Lawful b → i < mostPorts → linkNo (linksOf b mask .answer) ≡ 0 → bit (b .links) i ≡ 1 → bit mask i ≡ 0
+    → NotShown (linksOf b mask .next) i
+unfolding linksOf relinkedPort
+lost-not-shown b mask i lawful h =
+    if-when (λ (d : Linked). Lawful (d .next) → linkNo (d .answer) ≡ 0 → bit (b .links) i ≡ 1 → bit mask i ≡ 0 → NotShown (d .next) i) (maskBeyond (b .setup .n) mask)
+    (λ _ _ z _ _. absurd (omega (arith, z)))
+    (λ _ left _ was now.
+    silent-not-shown _ left i h
+    (let lost : losesLink (b .links) mask i ≡ true = rw (was, now) refl in
+    sym (ap (λ (p : Port). p .announcement) (relinked-lost (b .links) mask i (portAt (b .ports) i) lost ∙ sym (each-record (relinkedPort (b .links) mask) (b .ports) i (omega (arith, h, lawful .records)))))))
+    (links-lawful b mask lawful)
+
+-- A PORT THAT AGED likewise
+pub aged-not-shown : (b : Bridge) (at i : ℕ) {p : Precedence} {hop : ℕ} {heardAt : LocalTime} → Lawful b → i < mostPorts → ageOf b at .answer ≡ 0
+    → portAt (b .ports) i .announcement ≡ Announced p hop heardAt → b .setup .timeout ≤ sinceOf (record { 0 = at }) heardAt → NotShown (ageOf b at .next) i
+unfolding ageOf
+aged-not-shown b at i lawful h z e old =
+    if-when (λ (d : Done). Lawful (d .next) → d .answer ≡ 0 → NotShown (d .next) i) (leb circle at)
+    (λ _ _ z. absurd (omega (arith, z)))
+    (λ _ left _.
+    silent-not-shown _ left i h
+    (let timeout = b .setup .timeout in
+    let held = portAt (b .ports) i in
+    let found : tooOld (held .announcement) (record { 0 = at }) timeout ≡ true = ap (λ (x : Announcement). tooOld x (record { 0 = at }) timeout) e ∙ le-leb _ _ old in
+    sym (ap (λ (p : Port). p .announcement)
+    (aged-old (record { 0 = at }) timeout held found ∙ sym (each-record (λ _. agedPort (record { 0 = at }) timeout) (b .ports) i (omega (arith, h, lawful .records)))))))
+    (age-lawful b at lawful)
+    z
+
+-- ---- the runner-up, over a call
+
+module _ (b : Bridge) (lawful : Lawful b) (mask i : ℕ) (h : i < mostPorts) (alone : (j : ℕ) → losesLink (b .links) mask j ≡ eqb j i) where
+  -- the state with the new links
+  abbrev relinked : Bridge
+  relinked = withLinks b mask (each (relinkedPort (b .links) mask) 0 (b .ports))
+
+  -- this port's record is empty, and every other one as it was
+  emptied : portAt (relinked .ports) i .announcement ≡ Silent
+  emptied =
+      let lost = alone i ∙ eq-eqb i i refl in
+      sym (ap (λ (p : Port). p .announcement) (relinked-lost (b .links) mask i (portAt (b .ports) i) lost ∙ sym (each-record (relinkedPort (b .links) mask) (b .ports) i (omega (arith, h, lawful .records)))))
+
+  other-port : (j : ℕ) → (j ≡ i → ⊥) → portAt (relinked .ports) j ≡ portAt (b .ports) j
+  other-port j other = by (ltb j (length (b .ports))) refl where
+    by : (t : Bool) → ltb j (length (b .ports)) ≡ t → portAt (relinked .ports) j ≡ portAt (b .ports) j
+    by true e =
+        each-record (relinkedPort (b .links) mask) (b .ports) j (ltb-true _ _ e)
+        ∙ sym (relinked-kept (b .links) mask j (portAt (b .ports) j) (alone j ∙ ne-eqb j i other))
+    by false e =
+        let beyond = ltb-false j (length (b .ports)) e in
+        List·getD-eq-default (relinked .ports) emptyPort {n = j} (omega (arith, beyond, each-length (relinkedPort (b .links) mask) 0 (b .ports)))
+        ∙ sym (List·getD-eq-default (b .ports) emptyPort {n = j} beyond)
+
+  other-candidate : (n : ℕ) → (n ≡ i + 1 → ⊥) → rankedAt (candidates relinked) n ≡ rankedAt (candidates b) n
+  other-candidate zero other = refl
+  other-candidate (suc j) other =
+      ap (rankedAt (candidates relinked)) (sym (add-one j))
+      ∙ candidate-there relinked j
+      ∙ ap (λ (p : Port). candidateOf (j + 1) (p .announcement)) (other-port j (λ e. other (omega (arith, e))))
+      ∙ sym (candidate-there b j)
+      ∙ ap (rankedAt (candidates b)) (add-one j)
+
+-- WHERE THE CHOSEN PORT ALONE LOSES ITS LINK, the runner-up is chosen
+pub runner-up-next : (b : Bridge) (mask i : ℕ) {p : Precedence} {hop : ℕ} → Lawful b → i < mostPorts → chosenOf b ≡ Clock p hop (i + 1) → linkNo (linksOf b mask .answer) ≡ 0
+    → ((j : ℕ) → losesLink (b .links) mask j ≡ eqb j i) → chosenOf (linksOf b mask .next) ≡ rankedOf b 1
+unfolding linksOf rankedOf
+runner-up-next b mask i lawful h c z alone =
+    if-when (λ (d : Linked). Lawful (d .next) → linkNo (d .answer) ≡ 0 → chosenOf (d .next) ≡ rankedOf b 1) (maskBeyond (b .setup .n) mask)
+    (λ _ _ z. absurd (omega (arith, z)))
+    (λ _ left _.
+    let next = withLinks b mask (each (relinkedPort (b .links) mask) 0 (b .ports)) in
+    let head = chosen-head b lawful ∙ c in
+    sym (chosen-head next left)
+    ∙ second-next (candidates b) (candidates next) (numbered b lawful) (numbered next left) (omega (arith, nine b lawful)) (omega (arith, nine next left)) (i + 1) (omega (arith, h))
+    (other-candidate b lawful mask i h alone) (silent-none next i (emptied b lawful mask i h alone)) (subst IsClock (sym head) tt) (ap numberOf head))
+    (links-lawful b mask lawful)
+    z

@@ -65,6 +65,11 @@ from-there k (p ∷ ports) (suc i) =
     let next : suc k + i ≡ k + suc i = omega arith in
     from-there (suc k) ports i ∙ ap (λ (n : ℕ). candidateOf n (portAt ports i .announcement)) next
 
+pub candidate-there : (b : Bridge) (i : ℕ) → rankedAt (candidates b) (i + 1) ≡ candidateOf (i + 1) (portAt (b .ports) i .announcement)
+candidate-there b i =
+    let number : 1 + i ≡ i + 1 = omega arith in
+    ap (rankedAt (candidates b)) (add-one i) ∙ from-there 1 (b .ports) i ∙ ap (λ (n : ℕ). candidateOf n (portAt (b .ports) i .announcement)) number
+
 -- where no port announces anything there is the own clock alone
 pub fresh-alone : (setup : Setup) → placesOf places (placedOf (ownCandidate (setup .capable) (setup .own)) []) ≡ keptRanking setup (replicate mostPorts emptyPort)
 unfolding rankingOf placedOf candidatesFrom candidateOf

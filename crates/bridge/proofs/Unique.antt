@@ -1,4 +1,4 @@
--- Two outcomes that a contract allows are equal, for each of the eleven public calls.
+-- Two outcomes that a contract allows are equal, for each of document 01's eleven public calls and for Ranked.
 use mathlib.Core.Path.{_≡_, sym, _∙_}
 use mathlib.Core.List.{List}
 use Prim.Native.Nat.{ℕ}
@@ -14,7 +14,7 @@ use Rattle.bridge.specs.Setup.{setupOf}
 use Rattle.bridge.specs.Own.{ownClockOf}
 use Rattle.bridge.specs.Receive.{receiveOf}
 use Rattle.bridge.specs.Age.{ageOf}
-use Rattle.bridge.specs.Promises.{DonePromise, LinksPromise, ChosenPromise, SendPromise, DriftPromise}
+use Rattle.bridge.specs.Promises.{DonePromise, LinksPromise, ChosenPromise, RankedPromise, SendPromise, DriftPromise}
 use Rattle.bridge.specs.declared.Bridge.{Bridge}
 use Rattle.bridge.specs.declared.Done.{Done}
 use Rattle.bridge.specs.declared.Linked.{Linked}
@@ -58,6 +58,9 @@ age-one b at = done-one (ageOf b at)
 
 pub chosen-one : (b : Bridge) (x y : Candidate) → ChosenPromise b x → ChosenPromise b y → x ≡ y
 chosen-one b x y p q = one (p .answer) (q .answer)
+
+pub ranked-one : (b : Bridge) (place : ℕ) (x y : Candidate) → RankedPromise b place x → RankedPromise b place y → x ≡ y
+ranked-one b place x y p q = one (p .answer) (q .answer)
 
 -- the answer, the next state, and every byte of the output
 pub send-one : (b : Bridge) (port t : ℕ) (out left left' : List ℕ) (x y : Done)

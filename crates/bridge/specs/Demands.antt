@@ -25,7 +25,7 @@ use Rattle.timeline.specs.Drift.{million, driftNo}
 use Rattle.timeline.specs.declared.Drift.{Drift}
 use Rattle.timeline.specs.declared.Sent.the-variants.{At}
 use Rattle.choice.specs.Hop.{lastHop}
-use Rattle.choice.specs.Choose.{rankOf, numberOf}
+use Rattle.choice.specs.Choose.{rankOf, numberOf, shownPort}
 use Rattle.choice.specs.declared.Precedence.{Precedence}
 use Rattle.choice.specs.declared.Announcement.{Announcement}
 use Rattle.choice.specs.declared.Announcement.the-variants.{Announced}
@@ -49,6 +49,7 @@ use Rattle.bridge.specs.Own.{ownClockOf}
 use Rattle.bridge.specs.Receive.{receiveOf}
 use Rattle.bridge.specs.Age.{ageOf}
 use Rattle.bridge.specs.Chosen.{chosenOf}
+use Rattle.bridge.specs.Ranked.{rankedOf}
 use Rattle.bridge.specs.Send.{chosenSamples, sendOf}
 use Rattle.bridge.specs.declared.Bridge.{Bridge}
 use Rattle.bridge.specs.declared.Done.{Done}
@@ -152,6 +153,12 @@ abbrev pub NoWorse : Candidate → Candidate → Type 0
 NoWorse x Nothing = Unit {0}
 NoWorse Nothing (Clock q k j) = ⊥
 NoWorse (Clock p h i) (Clock q k j) = rankOf p h i ≤ rankOf q k j
+
+-- ---- the ranking
+
+-- no place shows the port at index i
+abbrev pub NotShown : Bridge → ℕ → Type 0
+NotShown b i = (place : ℕ) → shownPort (rankedOf b place) ≡ i + 1 → ⊥
 
 -- ---- calls in a row
 

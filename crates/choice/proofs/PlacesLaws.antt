@@ -20,7 +20,7 @@ use Rattle.choice.specs.declared.Candidate.the-variants.{Nothing, Clock}
 use Rattle.choice.specs.declared.Rank.{Rank}
 use Rattle.numbers.proofs.Branches.{if-true, if-false, if-when, if-both}
 use Rattle.choice.proofs.RankLaws.{same-order, clock-below, candidate-named, rank-candidate}
-use Rattle.choice.proofs.RankingLaws.{Under, numbers, ordered-same, place-member, behind-last, without-members, without-there, without-ordered, without-none, placed-members, placed-there, with-ordered}
+use Rattle.choice.proofs.RankingLaws.{Once, Under, numbers, none-behind, ordered-same, place-member, behind-last, without-members, without-there, without-ordered, placed-members, placed-there, with-ordered}
 
 -- each of a list has its bits
 abbrev Fit : List Candidate → Type 0
@@ -168,18 +168,9 @@ module _ (n : ℕ) (small : n < noNumber) where
   unfolding placeIn
   place-cons c s ic f = ap (λ (m : ℕ). cond (eqb m n) 0 (suc (placeIn n s))) (number-shown c ic f)
 
-  -- no two of a list in order are under one number
-  abbrev Once : List Candidate → Type 0
-  Once l = (x y : Candidate) → List·Memᴰ x l → List·Memᴰ y l → numberOf x ≡ numberOf y → x ≡ y
-
+  -- of the rest as of all
   once-behind : {c : Candidate} {l : List Candidate} → Once (c ∷ l) → Once l
   once-behind once x y m k = once x y (List·Memᴰ·tail m) (List·Memᴰ·tail k)
-
-  -- so the others have another number than the first
-  none-behind : (c : Candidate) (l : List Candidate) → Ordered (c ∷ l) → Once (c ∷ l) → numberOf c ≡ n → withoutNumber n l ≡ l
-  none-behind c l (first, o) once e =
-      without-none n l
-      (λ x m q. omega (arith, subst (λ (y : Candidate). rankIn c < rankIn y) (once x c (List·Memᴰ·tail m) (List·Memᴰ·head refl) (q ∙ sym e)) (first x m)))
 
   -- the place of a number closed: the list without it
   pub closed-without : (k : ℕ) (l : List Candidate) → length l ≤ k → Ordered l → Once l → Clocks l → Fit l → placeIn n (placesOf k l) < k
@@ -194,7 +185,7 @@ module _ (n : ℕ) (small : n < noNumber) where
       let place = place-cons c s (clocks c here) (fit c here) in
       ap (λ (i : ℕ). closedAt i whole) place
       ∙ if-both (λ (i : ℕ) (ranked : List Candidate). i < suc k → closedAt i whole ≡ placesOf (suc k) ranked) (eqb (numberOf c) n)
-      (λ e _. free-behind k l (omega (arith, room)) ∙ ap (placesOf (suc k)) (sym (none-behind c l (first, o) once (eqb-true _ _ e))))
+      (λ e _. free-behind k l (omega (arith, room)) ∙ ap (placesOf (suc k)) (sym (none-behind n c l (first, o) once (eqb-true _ _ e))))
       (λ _ later. later-closed (inNumbers c .0) (inNumbers c .1) s (placeIn n s)
       ∙ (λ i. inNumbers c .0 ∷ inNumbers c .1
       ∷ closed-without k l (omega (arith, room)) o (once-behind once) (λ x m. clocks x (List·Memᴰ·tail m)) (λ x m. fit x (List·Memᴰ·tail m)) (omega (arith, later)) i))

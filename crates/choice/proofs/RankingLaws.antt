@@ -168,7 +168,7 @@ Numbered k [] = Unit {0}
 Numbered k (c ∷ l) = Under k c × Numbered (suc k) l
 
 -- so each is found by its number
-numbered-at : (k : ℕ) (l : List Candidate) → Numbered k l → {p : Precedence} {h n : ℕ} → List·Memᴰ (Clock p h n) l
+pub numbered-at : (k : ℕ) (l : List Candidate) → Numbered k l → {p : Precedence} {h n : ℕ} → List·Memᴰ (Clock p h n) l
     → (i : ℕ) × (n ≡ k + i) × (i < length l) × (rankedAt l i ≡ Clock p h n)
 numbered-at k [] f m = absurd (List·Memᴰ·not-nil m)
 numbered-at k (c ∷ l) (u, f) {p} {h} {n} m =
@@ -366,6 +366,22 @@ without-none n (c ∷ l) none =
     sym (if-false (eqb (numberOf c) n) (withoutNumber n l) (c ∷ withoutNumber n l) (ne-eqb (numberOf c) n (none c (List·Memᴰ·head refl))))
     ∙ (λ i. c ∷ without-none n l (λ x m. none x (List·Memᴰ·tail m)) i)
 
+-- no two of a list are under one number
+abbrev pub Once : List Candidate → Type 0
+Once l = (x y : Candidate) → List·Memᴰ x l → List·Memᴰ y l → numberOf x ≡ numberOf y → x ≡ y
+
+-- so those behind the first have another number
+pub none-behind : (n : ℕ) (c : Candidate) (l : List Candidate) → Ordered (c ∷ l) → Once (c ∷ l) → numberOf c ≡ n → withoutNumber n l ≡ l
+none-behind n c l (first, o) once e =
+    without-none n l
+    (λ x m q. omega (arith, subst (λ (y : Candidate). rankIn c < rankIn y) (once x c (List·Memᴰ·tail m) (List·Memᴰ·head refl) (q ∙ sym e)) (first x m)))
+
+-- and without it they are left
+without-first : (n : ℕ) (c : Candidate) (l : List Candidate) → Ordered (c ∷ l) → Once (c ∷ l) → numberOf c ≡ n → withoutNumber n (c ∷ l) ≡ l
+unfolding withoutNumber
+without-first n c l o once e =
+    sym (if-true (eqb (numberOf c) n) (withoutNumber n l) (c ∷ withoutNumber n l) (eq-eqb (numberOf c) n e)) ∙ none-behind n c l o once e
+
 -- ---- and put in again
 
 pub placed-members : (c : Candidate) (l : List Candidate) {x : Candidate} → List·Memᴰ x (placedOf c l) → (IsClock x × (x ≡ c)) ⊎ List·Memᴰ x l
@@ -461,6 +477,20 @@ module _ (l : List Candidate) (f : Numbered 0 l) (room : length l ≤ numbers) (
   -- at place 1 stands the best of all but the best
   pub ranking-second : rankedAt (rankingOf l) 1 ≡ bestOf Nothing (withoutNumber (numberOf (bestOf Nothing l)) l)
   ranking-second = second-is (rankingOf l) refl ∙ ap (λ (c : Candidate). bestOf Nothing (withoutNumber (numberOf c) l)) (ranking-head l f room fits)
+
+-- where nothing stands under the best's number any more, the second is the best
+pub second-next : (l k : List Candidate) → Numbered 0 l → Numbered 0 k → length l ≤ numbers → length k ≤ numbers → (n : ℕ) → n < numbers
+    → ((i : ℕ) → (i ≡ n → ⊥) → rankedAt k i ≡ rankedAt l i) → rankedAt k n ≡ Nothing → IsClock (rankedAt (rankingOf l) 0) → numberOf (rankedAt (rankingOf l) 0) ≡ n
+    → rankedAt (rankingOf k) 0 ≡ rankedAt (rankingOf l) 1
+unfolding placedOf
+second-next l k fl fk rl rk n small same none clock number =
+    ap (λ (r : List Candidate). rankedAt r 0)
+    (ranking-changed l k fl fk rl rk n small same ∙ ap (λ (c : Candidate). withCandidate n c (rankingOf l)) none)
+    ∙ by (rankingOf l) (ranking-ordered 0 l fl (omega (arith, rl))) (numbered-once l fl) clock number
+  where
+    by : (r : List Candidate) → Ordered r → Once r → IsClock (rankedAt r 0) → numberOf (rankedAt r 0) ≡ n → rankedAt (withoutNumber n r) 0 ≡ rankedAt r 1
+    by [] o once c e = absurd c
+    by (x ∷ r) (first, o) once c e = ap (λ (q : List Candidate). rankedAt q 0) (without-first n x r (first, o) once e)
 
 -- ---- each once
 
