@@ -1,4 +1,4 @@
--- Laws of what a line is answered with: a drift is a number, and which lines leave the state as it is.
+-- Laws of what a line is answered with: a drift is a number, K 0 prints what C does, and which lines leave the state as it is.
 use mathlib.Core.Path.{_≡_, refl, sym, ap, _∙_}
 use mathlib.Core.Bool.{Bool, true, false, cond, true≢false}
 use mathlib.Core.List.{List}
@@ -14,16 +14,20 @@ use Rattle.samples.specs.Keep.{endsOf}
 use Rattle.samples.specs.declared.Ends.{Ends}
 use Rattle.samples.specs.declared.Ends.the-variants.{Few, Both}
 use Rattle.timeline.specs.Drift.{ppmOf, driftThrough, driftOf}
+use Rattle.bridge.specs.State.{Lawful}
 use Rattle.bridge.specs.Table.{samplesAt}
+use Rattle.bridge.specs.Ranked.{rankedOf}
 use Rattle.bridge.specs.Drift.{driftAt}
 use Rattle.bridge.specs.declared.Bridge.{Bridge}
+use Rattle.bridge.proofs.Ranking.{chosen-head}
 use Rattle.answer.specs.Answer.{Answer, says, refusedLine}
 use Rattle.forms.specs.Form.{noForm}
+use Rattle.forms.specs.Value.{byteIn}
 use Rattle.forms.specs.declared.Form.{Form}
-use Rattle.replay_grammar.specs.Row.{letterS, letterL, letterO, letterR, letterA, letterT}
+use Rattle.replay_grammar.specs.Row.{letterS, letterL, letterO, letterR, letterA, letterC, letterT, letterK}
 use Rattle.replay_grammar.specs.Line.{asksBy, longestLine, mayBeLine, letterOf, formIn, formFor, asks}
 use Rattle.replay_grammar.proofs.LineLaws.{form-some, asks-letter}
-use Rattle.replay_calls.specs.Answer.{IsNumber, askedText, callOf, answerOf}
+use Rattle.replay_calls.specs.Answer.{chosenText, IsNumber, askedText, callOf, answerOf}
 
 -- ---- a drift is a number
 
@@ -56,6 +60,12 @@ samples-number s = by (endsOf s)
 pub drift-number : (b : Bridge) (p : ℕ) → IsNumber (driftAt b p)
 unfolding driftAt
 drift-number b p = if-when IsNumber (ltb (b .setup .n) p) (λ t. tt) (λ t. samples-number (samplesAt p (b .clock) (b .ports)))
+
+-- ---- the candidate at place 0 is the chosen clock
+
+pub ranked-first : (b : Bridge) (f : Form) → Lawful b → byteIn f 0 ≡ 0 → askedText letterK b f ≡ askedText letterC b f
+unfolding askedText
+ranked-first b f lawful e = ap chosenText (ap (rankedOf b) e ∙ chosen-head b lawful)
 
 -- ---- a letter that asks
 

@@ -17,6 +17,7 @@ use Rattle.bridge.specs.Own.{ownClockOf}
 use Rattle.bridge.specs.Receive.{receiveOf}
 use Rattle.bridge.specs.Age.{ageOf}
 use Rattle.bridge.specs.Chosen.{chosenOf}
+use Rattle.bridge.specs.Ranked.{rankedOf}
 use Rattle.bridge.specs.Send.{sendOf, sendBytes}
 use Rattle.bridge.specs.Drift.{driftAt}
 use Rattle.bridge.specs.declared.Bridge.{Bridge}
@@ -32,7 +33,7 @@ use Rattle.forms.specs.Form.{numberIn}
 use Rattle.forms.specs.Value.{byteIn, sizeIn}
 use Rattle.forms.specs.declared.Form.{Form}
 use Rattle.answer.specs.Answer.{Answer, says, refusedLine, doneSays}
-use Rattle.replay_grammar.specs.Row.{letterS, letterL, letterO, letterR, letterA, letterC, letterT, letterD, letterE}
+use Rattle.replay_grammar.specs.Row.{letterS, letterL, letterO, letterR, letterA, letterC, letterT, letterD, letterE, letterK}
 use Rattle.replay_grammar.specs.Line.{mayBeLine, letterOf, formIn}
 use Rattle.replay_frames.specs.Frames.{untouched, plainText}
 use Rattle.replay_setup.specs.Argument.{setupIn}
@@ -54,6 +55,7 @@ sendSays b port t out = sentSays (sendOf b port t (length out)) (sendBytes b por
 
 -- ---- the calls that leave the state as it is
 
+-- of C and K: port and held hop
 abbrev pub chosenText : Candidate → List ℕ
 chosenText choice = line2 (shownPort choice) (shownHop choice)
 
@@ -74,13 +76,14 @@ stampText (unstamped k) = line1 (stampNo (unstamped k))
 
 -- ---- the letter's call
 
--- C, D, E, and the plain lines: what is printed
+-- C, D, E, K, and the plain lines: what is printed
 unfoldable pub askedText : ℕ → Bridge → Form → List ℕ
 askedText letter b f =
     cond (eqb letter letterC) (chosenText (chosenOf b))
     (cond (eqb letter letterD) (driftText (driftAt b (byteIn f 0)))
     (cond (eqb letter letterE) (stampText (stampOf b (numberIn f 0)))
-    (plainText letter f)))
+    (cond (eqb letter letterK) (chosenText (rankedOf b (byteIn f 0)))
+    (plainText letter f))))
 
 -- S, L, O, R, A, T, and those
 unfoldable pub callOf : ℕ → Bridge → Form → Answer

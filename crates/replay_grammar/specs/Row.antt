@@ -44,6 +44,9 @@ letterB = 66
 abbrev pub letterE : ℕ
 letterE = 69
 
+abbrev pub letterK : ℕ
+letterK = 75
+
 abbrev pub letterX : ℕ
 letterX = 88
 
@@ -98,4 +101,5 @@ rowOf letter =
     (cond (eqb letter letterT) (row (BYTE ∷ NUMBER ∷ LENGTH ∷ []))
     (cond (eqb letter letterD) (row (BYTE ∷ []))
     (cond (eqb letter letterE) (row (NUMBER ∷ []))
-    (plainRow letter))))))))
+    (cond (eqb letter letterK) (row (BYTE ∷ []))
+    (plainRow letter)))))))))

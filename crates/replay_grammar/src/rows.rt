@@ -90,6 +90,7 @@ pub fn row(letter: u8) -> [u8; 17]
         b'T' => kind::row(BYTE, NUMBER, LENGTH, END),
         b'D' => kind::row(BYTE, END, END, END),
         b'E' => kind::row(NUMBER, END, END, END),
+        b'K' => kind::row(BYTE, END, END, END),
         _ => plain_row(letter),
     }
 }

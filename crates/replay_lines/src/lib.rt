@@ -34,6 +34,7 @@ fn asked(b: Bridge, letter: u8, form: Form, out: &mut [u8]) -> usize
         b'C' => replay_questions::chosen(b, out),
         b'D' => replay_questions::drift(b, form, out),
         b'E' => replay_questions::stamp(b, form, out),
+        b'K' => replay_questions::ranked(b, form, out),
         _ => replay_frames::asked(letter, form, out),
     }
 }

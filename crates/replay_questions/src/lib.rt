@@ -7,6 +7,7 @@ ghost use lib.Ieee.{isNan, toBits, binary64};
 ghost use Rattle.numbers.specs.Bytes.{numberBytes};
 ghost use Rattle.bridge.specs.State.{Lawful};
 ghost use Rattle.bridge.specs.Chosen.{chosenOf};
+ghost use Rattle.bridge.specs.Ranked.{rankedOf};
 ghost use Rattle.bridge.specs.Drift.{driftAt};
 ghost use Rattle.recorder.specs.Stamp.{stampOf};
 ghost use Rattle.forms.specs.Form.{numberIn};
@@ -14,10 +15,21 @@ ghost use Rattle.forms.specs.Value.{byteIn};
 ghost use Rattle.columns.specs.Columns.{longestAnswer, lineWith, Prints};
 ghost use Rattle.replay_calls.specs.Answer.{chosenText, IsNumber, driftText, stampText};
 use bridge::Bridge;
+use choice::Candidate;
 use forms::Form;
 use forms::value;
 use recorder::Stamped;
 use timeline::Drift;
+
+// Prints the port and the held hop of a candidate.
+fn shown(candidate: Candidate, out: &mut [u8]) -> usize
+    requires { ⌜ longestAnswer ≤ length (now out) ⌝ }
+    ensures { λ r. ⌜ Prints (chosenText candidate) r (now (out .entry)) (now (out .exit)) ⌝ }
+{
+    let port = choice_candidates::shown_port(candidate);
+    let hop = choice_candidates::shown_hop(candidate);
+    columns::two(out, port, hop)
+}
 
 // `C`.
 pub fn chosen(b: Bridge, out: &mut [u8]) -> usize
@@ -25,10 +37,16 @@ pub fn chosen(b: Bridge, out: &mut [u8]) -> usize
     requires { ⌜ longestAnswer ≤ length (now out) ⌝ }
     ensures { λ r. ⌜ Prints (chosenText (chosenOf b)) r (now (out .entry)) (now (out .exit)) ⌝ }
 {
-    let choice = bridge_chosen::chosen(b);
-    let port = choice_candidates::shown_port(choice);
-    let hop = choice_candidates::shown_hop(choice);
-    columns::two(out, port, hop)
+    shown(bridge_chosen::chosen(b), out)
+}
+
+// `K place`.
+pub fn ranked(b: Bridge, form: Form, out: &mut [u8]) -> usize
+    requires { ⌜ Lawful b ⌝ }
+    requires { ⌜ longestAnswer ≤ length (now out) ⌝ }
+    ensures { λ r. ⌜ Prints (chosenText (rankedOf b (byteIn form 0))) r (now (out .entry)) (now (out .exit)) ⌝ }
+{
+    shown(bridge_ranked::ranked(b, value::byte(form, 0)), out)
 }
 
 // Prints a float's bits after the answer 0.

@@ -6,12 +6,12 @@ use Rattle.replay_lines.proofs.asked.Statement.{statement}
 use Rattle.replay_lines.proofs.asked.Tie as tie
 
 -- none of the questions' letters
-rest : tie.Need-returns-4
+rest : tie.Need-returns-5
 unfolding askedText
 rest c =
     let a = c .before .before in
     let n = a .before .before .match .rest in
-    rw (ne-eqb _ _ (n .0 .0 .1), ne-eqb _ _ (n .0 .1), ne-eqb _ _ (n .1)) (a .asked .ensures)
+    rw (ne-eqb _ _ (n .0 .0 .0 .1), ne-eqb _ _ (n .0 .0 .1), ne-eqb _ _ (n .0 .1), ne-eqb _ _ (n .1)) (a .asked .ensures)
 
 pub asked-spec : {M : Type 1} → statement M
 unfolding askedText
@@ -22,11 +22,14 @@ asked-spec =
     (λ c κs. search needs)
     (λ c κs. search needs)
     (λ c κs. search needs)
+    (λ c κs. search needs)
     (λ c. search needs)
     (λ c. rw (c .before .before .before .before .match .keys1) (c .before .before .chosen .ensures))
     (λ c. search needs)
     (λ c. rw (c .before .before .before .before .match .keys2) (c .before .before .drift .ensures))
     (λ c. search needs)
     (λ c. rw (c .before .before .before .before .match .keys3) (c .before .before .stamp .ensures))
+    (λ c. search needs)
+    (λ c. rw (c .before .before .before .before .match .keys4) (c .before .before .ranked .ensures))
     (λ c. search needs)
     rest)

@@ -7,17 +7,18 @@ use Rattle.replay_grammar.proofs.rows.row.Statement.{statement}
 use Rattle.replay_grammar.proofs.rows.row.Tie as tie
 
 -- none of the letters of calls on a bridge
-rest : tie.Need-returns-9
+rest : tie.Need-returns-10
 unfolding rowOf
 rest c =
     let n = c .before .match .rest in
-    rw (ne-eqb _ _ (n .0 .0 .0 .0 .0 .0 .0 .1), ne-eqb _ _ (n .0 .0 .0 .0 .0 .0 .1), ne-eqb _ _ (n .0 .0 .0 .0 .0 .1), ne-eqb _ _ (n .0 .0 .0 .0 .1), ne-eqb _ _ (n .0 .0 .0 .1), ne-eqb _ _ (n .0 .0 .1), ne-eqb _ _ (n .0 .1), ne-eqb _ _ (n .1)) (c .plain-row .ensures)
+    rw (ne-eqb _ _ (n .0 .0 .0 .0 .0 .0 .0 .0 .1), ne-eqb _ _ (n .0 .0 .0 .0 .0 .0 .0 .1), ne-eqb _ _ (n .0 .0 .0 .0 .0 .0 .1), ne-eqb _ _ (n .0 .0 .0 .0 .0 .1), ne-eqb _ _ (n .0 .0 .0 .0 .1), ne-eqb _ _ (n .0 .0 .0 .1), ne-eqb _ _ (n .0 .0 .1), ne-eqb _ _ (n .0 .1), ne-eqb _ _ (n .1)) (c .plain-row .ensures)
 
 pub row-spec : {M : Type 1} → statement M
 unfolding rowOf
 row-spec =
     tie.close
     (tie.spec
+    (λ c κs. search needs)
     (λ c κs. search needs)
     (λ c κs. search needs)
     (λ c κs. search needs)
@@ -34,4 +35,5 @@ row-spec =
     (λ c. c .row5 .ensures ∙ ap rowOf (sym (c .before .match .keys6)))
     (λ c. c .row6 .ensures ∙ ap rowOf (sym (c .before .match .keys7)))
     (λ c. c .row7 .ensures ∙ ap rowOf (sym (c .before .match .keys8)))
+    (λ c. c .row8 .ensures ∙ ap rowOf (sym (c .before .match .keys9)))
     rest)
