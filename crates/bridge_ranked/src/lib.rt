@@ -9,5 +9,6 @@ pub fn ranked(b: Bridge, place: u8) -> Candidate
     requires { ⌜ Lawful b ⌝ }
     ensures { λ r. ⌜ RankedPromise b place r ⌝ }
 {
-    choice_ranking::candidate_at(&b.ranking, place as usize)
+    let ranking = b.ranking;
+    choice_ranking::candidate_at(&ranking, place as usize)
 }

@@ -12,7 +12,7 @@ use lib.ListN.{length, take, drop, getD, set, replicate}
 use Rattle.choice.specs.Choose.{rankOf, numberOf}
 use Rattle.choice.specs.Rank.{lowerEnd, lastNumber, inNumbers, CandidateFits, Ranks, worthOf, candidateAt}
 use Rattle.choice.specs.Least.{rankIn}
-use Rattle.choice.specs.Ranking.{insertedOf, placedOf, rankedAt, Ordered, IsClock, withoutNumber, withCandidate}
+use Rattle.choice.specs.Ranking.{isBetter, insertedOf, placedOf, rankedAt, Ordered, IsClock, withoutNumber, withCandidate}
 use Rattle.choice.specs.Places.{places, noNumber, placesOf, Whole, Keeps, Kept, rankAt, candidateIn, placeIn, closedAt, insertedIn}
 use Rattle.choice.specs.declared.Precedence.{Precedence}
 use Rattle.choice.specs.declared.Candidate.{Candidate}
@@ -112,7 +112,7 @@ clock-inserted (suc k) c (x ∷ l) ic f (first, o) clocks fit =
     let clocks-behind : Clocks l = λ y m. clocks y (List·Memᴰ·tail m) in
     let fit-behind : Fit l = λ y m. fit y (List·Memᴰ·tail m) in
     rw (clocks-compared c x ic (clocks x here))
-    (if-both (λ (s : List ℕ) (ranked : List Candidate). s ≡ placesOf (suc k) ranked) (ltb (rankIn c) (rankIn x))
+    (if-both (λ (s : List ℕ) (ranked : List Candidate). s ≡ placesOf (suc k) ranked) (isBetter c x)
     (λ _. λ i. inNumbers c .0 ∷ inNumbers c .1 ∷ first-inserted k x l (clocks x here) (fit x here) (first, o) clocks-behind fit-behind i)
     (λ _. λ i. inNumbers x .0 ∷ inNumbers x .1 ∷ clock-inserted k c l ic f o clocks-behind fit-behind i))
 

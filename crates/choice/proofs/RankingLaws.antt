@@ -14,7 +14,7 @@ use Rattle.choice.specs.Choose.{rankOf, betterOf, bestOf, numberOf}
 use Rattle.choice.specs.Rank.{CandidateFits}
 use Rattle.choice.specs.Least.{noRank, rankIn}
 use Rattle.choice.specs.Permutation.{Permutation, empty, placed}
-use Rattle.choice.specs.Ranking.{insertedOf, placedOf, rankingOf, rankedAt, Ordered, IsClock, clocksIn, isBelow, howManyBelow, withoutNumber, withCandidate}
+use Rattle.choice.specs.Ranking.{isBetter, insertedOf, placedOf, rankingOf, rankedAt, Ordered, IsClock, clocksIn, isBelow, howManyBelow, withoutNumber, withCandidate}
 use Rattle.choice.specs.declared.Precedence.{Precedence}
 use Rattle.choice.specs.declared.Candidate.{Candidate}
 use Rattle.choice.specs.declared.Candidate.the-variants.{Nothing, Clock}
@@ -54,7 +54,7 @@ inserted-members : (c : Candidate) (l : List Candidate) {x : Candidate} → List
 unfolding insertedOf
 inserted-members c [] = λ m. List·Memᴰ·cases-cons m
 inserted-members c (y ∷ l) {x} =
-    if-when (λ (k : List Candidate). List·Memᴰ x k → (x ≡ c) ⊎ List·Memᴰ x (y ∷ l)) (ltb (rankIn c) (rankIn y))
+    if-when (λ (k : List Candidate). List·Memᴰ x k → (x ≡ c) ⊎ List·Memᴰ x (y ∷ l)) (isBetter c y)
     (λ _ m. List·Memᴰ·cases-cons m)
     (λ _ m. ⊎-elim (λ e. inr (List·Memᴰ·head e)) (λ n. ⊎-elim inl (λ r. inr (List·Memᴰ·tail r)) (inserted-members c l n)) (List·Memᴰ·cases-cons m))
 
@@ -62,7 +62,7 @@ inserted-there : (c : Candidate) (l : List Candidate) {x : Candidate} → (x ≡
 unfolding insertedOf
 inserted-there c [] w = ⊎-elim List·Memᴰ·head List·Memᴰ·tail w
 inserted-there c (y ∷ l) {x} w =
-    if-when (List·Memᴰ x) (ltb (rankIn c) (rankIn y))
+    if-when (List·Memᴰ x) (isBetter c y)
     (λ _. ⊎-elim List·Memᴰ·head List·Memᴰ·tail w)
     (λ _. ⊎-elim
     (λ e. List·Memᴰ·tail (inserted-there c l (inl e)))
@@ -74,7 +74,7 @@ inserted-ordered : (c : Candidate) (l : List Candidate) → Ordered l → ((x : 
 unfolding insertedOf
 inserted-ordered c [] o other = (λ x m. absurd (List·Memᴰ·not-nil m), tt)
 inserted-ordered c (y ∷ l) (first, o) other =
-    if-when Ordered (ltb (rankIn c) (rankIn y))
+    if-when Ordered (isBetter c y)
     (λ e.
     let less = ltb-true (rankIn c) (rankIn y) e in
     (λ x m. ⊎-elim (λ q. subst (λ (z : Candidate). rankIn c < rankIn z) (sym q) less) (λ n. lt-trans less (first x n)) (List·Memᴰ·cases-cons m), (first, o)))
@@ -92,7 +92,7 @@ inserted-among : (c : Candidate) (l : List Candidate) → Among c l (insertedOf 
 unfolding insertedOf
 inserted-among c [] = ([], [], refl, refl)
 inserted-among c (y ∷ l) =
-    if-when (Among c (y ∷ l)) (ltb (rankIn c) (rankIn y))
+    if-when (Among c (y ∷ l)) (isBetter c y)
     (λ _. ([], y ∷ l, refl, refl))
     (λ _. let (before, after, e, f) = inserted-among c l in (y ∷ before, after, (λ i. y ∷ e i), (λ i. y ∷ f i)))
 
@@ -127,7 +127,7 @@ ranking-permutation (Clock p h n ∷ l) = inserted-permutation (Clock p h n) (cl
 inserted-length : (c : Candidate) (l : List Candidate) → length (insertedOf c l) ≡ suc (length l)
 unfolding insertedOf
 inserted-length c [] = refl
-inserted-length c (y ∷ l) = if-when (λ (k : List Candidate). length k ≡ suc (suc (length l))) (ltb (rankIn c) (rankIn y)) (λ _. refl) (λ _. ap suc (inserted-length c l))
+inserted-length c (y ∷ l) = if-when (λ (k : List Candidate). length k ≡ suc (suc (length l))) (isBetter c y) (λ _. refl) (λ _. ap suc (inserted-length c l))
 
 pub ranking-length : (l : List Candidate) → length (rankingOf l) ≤ length l
 unfolding rankingOf placedOf
@@ -287,7 +287,7 @@ inserted-below : (r : ℕ) (c : Candidate) (l : List Candidate) → howManyBelow
 unfolding insertedOf howManyBelow
 inserted-below r c [] = refl
 inserted-below r c (y ∷ l) =
-    if-when (λ (k : List Candidate). howManyBelow r k ≡ isBelow r c + (isBelow r y + howManyBelow r l)) (ltb (rankIn c) (rankIn y))
+    if-when (λ (k : List Candidate). howManyBelow r k ≡ isBelow r c + (isBelow r y + howManyBelow r l)) (isBetter c y)
     (λ _. refl)
     (λ _. omega (arith, inserted-below r c l))
 

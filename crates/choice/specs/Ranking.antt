@@ -1,5 +1,5 @@
 -- The ranking: the clocks among some candidates, from best to worst.
-use mathlib.Core.Bool.{cond}
+use mathlib.Core.Bool.{Bool, cond}
 use mathlib.Core.List.{List, [], _∷_, List·Memᴰ}
 use Prim.Native.Nat.{ℕ, _+_, _<_}
 use lib.Dec.{ltb, eqb}
@@ -9,10 +9,14 @@ use Rattle.choice.specs.Least.{rankIn}
 use Rattle.choice.specs.declared.Candidate.{Candidate}
 use Rattle.choice.specs.declared.Candidate.the-variants.{Nothing, Clock}
 
--- a clock put in before the first whose rank is greater
+-- of two candidates the first has the lesser rank
+abbrev pub isBetter : Candidate → Candidate → Bool
+isBetter c x = ltb (rankIn c) (rankIn x)
+
+-- a clock put in before the first that it is better than
 unfoldable pub insertedOf : Candidate → List Candidate → List Candidate
 insertedOf c [] = c ∷ []
-insertedOf c (x ∷ l) = cond (ltb (rankIn c) (rankIn x)) (c ∷ (x ∷ l)) (x ∷ insertedOf c l)
+insertedOf c (x ∷ l) = cond (isBetter c x) (c ∷ (x ∷ l)) (x ∷ insertedOf c l)
 
 -- the same of a candidate: what is none is not put in
 unfoldable pub placedOf : Candidate → List Candidate → List Candidate

@@ -15,7 +15,7 @@ pub fn stamp(b: Bridge, latch: u64) -> Stamped
     if bridge_arguments::off_circle(latch) {
         return Stamped::Refused(refusals::OUT_OF_RANGE);
     }
-    match bridge_chosen::chosen(b) {
+    match choice_ranking::candidate_at(&b.ranking, choice_ranking::CHOSEN) {
         Candidate::Nothing => Stamped::Refused(refusals::NO_CLOCK),
         Candidate::Clock(_, _, number) => match number {
             0 => {

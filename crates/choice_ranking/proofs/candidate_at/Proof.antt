@@ -2,6 +2,7 @@
 use borrow.Author.Needs.{needs}
 use borrow.Author.Tests.{lt-ltb, le-ltb}
 use mathlib.Core.Path.{_∙_}
+use native.Mathlib.Omega.{arith}
 use Rattle.choice.specs.Places.{candidateIn}
 use Rattle.numbers.proofs.Branches.{if-true, if-false}
 use Rattle.choice.proofs.PlacesLaws.{kept-rank}
@@ -12,13 +13,13 @@ candidate-requires : tie.Need-candidate-requires
 candidate-requires c κs =
     let t = c .before .before in
     let (l, k) = t .before .pre in
-    (_, kept-rank k (t .before .args .place) (t .if1 .taken))
+    (_, kept-rank k (t .before .args .place) (omega (arith, t .if1 .taken)))
 
 returns : tie.Need-returns
 unfolding candidateIn
 returns c =
     let t = c .before .before .before in
-    c .candidate .ensures ∙ if-true _ _ _ (lt-ltb _ _ (t .if1 .taken))
+    c .candidate .ensures ∙ if-true _ _ _ (lt-ltb _ _ (omega (arith, t .if1 .taken)))
 
 returns-2 : tie.Need-returns-2
 unfolding candidateIn

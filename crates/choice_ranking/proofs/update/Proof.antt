@@ -3,6 +3,7 @@ use borrow.Author.Needs.{needs}
 use mathlib.Core.Path.{_≡_, sym, ap, _∙_, subst}
 use mathlib.Core.Logic.{_⊎_, inl, inr, ⊎-elim}
 use Prim.Native.Nat.{ℕ, _<_, _≤_}
+use native.Mathlib.Omega.{arith}
 use lib.ListN.{length}
 use Rattle.choice.specs.Places.{places, rankAt, placeIn, closedAt, insertedIn, Whole}
 use Rattle.choice.proofs.RankLaws.{same-ranks}
@@ -37,7 +38,7 @@ returns c =
 close-requires : tie.Need-close-requires
 close-requires c κs =
     let t = c .before .before .before .before .before in
-    (kept-whole (start (t .before) .pre), t .if1 .taken)
+    (kept-whole (start (t .before) .pre), omega (arith, t .if1 .taken))
 
 -- where the rank is put in: what stood there is out, or nothing did
 abbrev Left : tie.Joined1 → Type 0

@@ -16,6 +16,8 @@ use Rattle.recorder.specs.Stamp.{latched, stampThrough}
 use Rattle.recorder.specs.Promises.{StampPromise}
 use Rattle.recorder.specs.declared.Stamped.{Stamped}
 use Rattle.bridge.proofs.TableLaws.{samples-own}
+use Rattle.bridge.proofs.RankingLaws.{ranking-keeps}
+use Rattle.bridge.proofs.Ranking.{kept-chosen}
 use Rattle.bridge.proofs.StateLaws.{NoneBelow, chosen-number, last-port, record-lawful, record-samples}
 use Rattle.recorder.proofs.StampLaws.{stamp-off, stamp-by}
 use Rattle.recorder.proofs.PromiseLaws.{stamp-out}
@@ -23,23 +25,31 @@ use Rattle.recorder_stamp.proofs.stamp.Statement.{statement}
 use Rattle.recorder_stamp.proofs.stamp.Tie as tie
 
 -- where the choice was asked for
-abbrev choice : tie.After-known-told → tie.After-chosen
+abbrev choice : tie.After-known-told → tie.After-candidate-at
 choice k = k .before .before .before
 
--- what was asked, where a clock is chosen, and that clock's number
+-- what was asked
+abbrev start : tie.After-candidate-at → tie.Start
+start c = c .before .before .before .before .before
+
+-- the same, where a clock is chosen, and that clock's number
 abbrev asked : tie.After-known-told → tie.Start
-asked k = choice k .before .before .before
+asked k = start (choice k)
 
 abbrev number : tie.After-known-told → ℕ
 number k = k .before .number .given .0 .1 .1 .0
 
 -- a latch that was not refused
-on-circle : (c : tie.After-chosen) → c .before .before .before .args .latch < circle
-on-circle c = leb-false _ _ (sym (c .before .before .off-circle .ensures) ∙ c .before .if1 .left)
+on-circle : (c : tie.After-candidate-at) → start c .args .latch < circle
+on-circle c = leb-false _ _ (sym (c .before .before .before .before .off-circle .ensures) ∙ c .before .before .before .if1 .left)
+
+-- the first of the ranking is the chosen clock
+first : (c : tie.After-candidate-at) → c .«candidate-at» .result ≡ chosenOf (start c .args .t1)
+first c = c .«candidate-at» .ensures ∙ kept-chosen _ (start c .pre)
 
 -- the clock that is chosen
 chosen-is : (k : tie.After-known-told) → let g = k .before .number .given .0 in Clock (g .0) (g .1 .0) (number k) ≡ chosenOf (asked k .args .t1)
-chosen-is k = sym (k .before .number .given .1) ∙ choice k .chosen .ensures .answer
+chosen-is k = sym (k .before .number .given .1) ∙ first (choice k)
 
 -- an arm of the match, by the samples that it reads
 arm : (k : tie.After-known-told) {samples : Samples} {r : Stamped} → let a = asked k .args in samples ≡ samplesAt (number k) (a .t1 .clock) (a .t1 .ports)
@@ -56,6 +66,9 @@ last k r =
     let s = asked k in
     last-port (omega (arith, ap numberOf (chosen-is k), chosen-number (s .args .t1) (s .pre .records))) r
 
+candidate-at-requires : tie.Need-candidate-at-requires
+candidate-at-requires c κs = (_, ranking-keeps _ (c .before .before .before .before .pre))
+
 -- a latch that is no local time
 off : tie.Need-returns
 off c = stamp-out _ _ _ (stamp-off _ _ (leb-true _ _ (sym (c .before .off-circle .ensures) ∙ c .if1 .taken)))
@@ -64,7 +77,7 @@ off c = stamp-out _ _ _ (stamp-off _ _ (leb-true _ _ (sym (c .before .off-circle
 no-clock : tie.Need-returns-2
 no-clock c =
     let k = c .before .before in
-    stamp-out _ _ _ (stamp-by _ _ (on-circle k) (sym (c .enum-told .given .1) ∙ k .chosen .ensures .answer))
+    stamp-out _ _ _ (stamp-by _ _ (on-circle k) (sym (c .enum-told .given .1) ∙ first k))
 
 pub stamp-spec : {M : Type 1} → statement M
 stamp-spec =
@@ -72,7 +85,7 @@ stamp-spec =
     (tie.spec
     (λ c κs. search needs)
     off
-    (λ c κs. search needs)
+    candidate-at-requires
     (λ c. search needs)
     (λ c. search needs)
     (λ c κs. search needs)
