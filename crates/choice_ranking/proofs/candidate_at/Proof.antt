@@ -3,7 +3,7 @@ use borrow.Author.Needs.{needs}
 use borrow.Author.Tests.{lt-ltb, le-ltb}
 use mathlib.Core.Path.{_∙_}
 use native.Mathlib.Omega.{arith}
-use Rattle.choice.specs.Places.{candidateIn}
+use Rattle.choice.specs.Places.{places, candidateIn}
 use Rattle.numbers.proofs.Branches.{if-true, if-false}
 use Rattle.choice.proofs.PlacesLaws.{kept-rank}
 use Rattle.choice_ranking.proofs.candidate_at.Statement.{statement}
@@ -19,7 +19,7 @@ returns : tie.Need-returns
 unfolding candidateIn
 returns c =
     let t = c .before .before .before in
-    c .candidate .ensures ∙ if-true _ _ _ (lt-ltb _ _ (omega (arith, t .if1 .taken)))
+    c .candidate .ensures ∙ if-true _ _ _ (lt-ltb (t .before .args .place) places (omega (arith, t .if1 .taken)))
 
 returns-2 : tie.Need-returns-2
 unfolding candidateIn
