@@ -15,7 +15,7 @@ use Rattle.choice.specs.Choose.{candidateOf, bestOf, numberOf, shownPort}
 use Rattle.choice.specs.Least.{rankIn}
 use Rattle.choice.specs.Permutation.{Permutation}
 use Rattle.choice.specs.Ranking.{rankedAt, Ordered, IsClock, clocksIn, howManyBelow, withoutNumber}
-use Rattle.choice.specs.Places.{places, candidateIn, Keeps}
+use Rattle.choice.specs.Places.{candidateIn}
 use Rattle.choice.specs.declared.Precedence.{Precedence}
 use Rattle.choice.specs.declared.Announcement.the-variants.{Silent, Announced}
 use Rattle.choice.specs.declared.Announcement.{Announcement}

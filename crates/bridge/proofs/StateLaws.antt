@@ -36,7 +36,7 @@ use Rattle.bridge.specs.Table.{mostPorts, each, portAt, samplesAt, sampl
 use Rattle.bridge.specs.Arguments.{portRefusal, sendRefusal, ownClockRefusal, maskBeyond}
 use Rattle.bridge.specs.Fits.{setupFits}
 use Rattle.bridge.specs.declared.Setup.{Setup}
-use Rattle.bridge.specs.State.{withPorts, withPort, withLinks, answers, linked, storesPort, storesClock, refusedOr, Lawful}
+use Rattle.bridge.specs.State.{withPorts, answers, linked, storesPort, storesClock, refusedOr, Lawful}
 use Rattle.bridge.specs.Setup.{freshOf, noBridge, setupOf}
 use Rattle.bridge.specs.Links.{linksOf}
 use Rattle.bridge.specs.Own.{ownClockOf}

@@ -1,26 +1,25 @@
 -- Laws of a ranking that is kept: the rank at a place names the candidate there; a clock is found by its number; and what is taken out and put in at the places is taken out of and put into the ranking.
 use mathlib.Core.Path.{_≡_, refl, sym, ap, _∙_, subst}
 use mathlib.Core.Bool.{Bool, true, false, cond}
-use mathlib.Core.List.{List, [], _∷_, _++_, List·Memᴰ, List·Memᴰ·head, List·Memᴰ·tail, List·Memᴰ·cases-cons, List·Memᴰ·not-nil}
+use mathlib.Core.List.{List, [], _∷_, _++_, List·Memᴰ, List·Memᴰ·head, List·Memᴰ·tail, List·Memᴰ·not-nil}
 use mathlib.Core.Logic.{_⊎_, inl, inr, ⊎-elim}
-use Prim.Native.Nat.{ℕ, zero, suc, _+_, _*_, _/_, _%_, _<_, _≤_}
+use Prim.Native.Nat.{ℕ, zero, suc, _+_, _*_, _%_, _<_, _≤_}
 use native.Mathlib.Nat.{le-of-lt, le-refl}
 use native.Mathlib.Omega.{arith}
-use borrow.Author.Tests.{ltb-true, ltb-false, eqb-true, eqb-false, eq-eqb, ne-eqb, le-ltb, lt-ltb}
+use borrow.Author.Tests.{ltb-true, ltb-false, eqb-true, eqb-false, ne-eqb, le-ltb, lt-ltb}
 use lib.Dec.{ltb, eqb}
 use lib.ListN.{length, take, drop, getD, set, replicate}
 use Rattle.choice.specs.Choose.{rankOf, numberOf}
-use Rattle.choice.specs.Rank.{lowerEnd, lastNumber, inNumbers, CandidateFits, Ranks, worthOf, candidateAt}
+use Rattle.choice.specs.Rank.{lastNumber, inNumbers, CandidateFits, Ranks, worthOf, candidateAt}
 use Rattle.choice.specs.Least.{rankIn}
 use Rattle.choice.specs.Ranking.{isBetter, insertedOf, placedOf, rankedAt, Ordered, IsClock, withoutNumber, withCandidate}
 use Rattle.choice.specs.Places.{places, noNumber, placesOf, Whole, Keeps, Kept, rankAt, candidateIn, placeIn, closedAt, insertedIn}
-use Rattle.choice.specs.declared.Precedence.{Precedence}
 use Rattle.choice.specs.declared.Candidate.{Candidate}
 use Rattle.choice.specs.declared.Candidate.the-variants.{Nothing, Clock}
 use Rattle.choice.specs.declared.Rank.{Rank}
 use Rattle.numbers.proofs.Branches.{if-true, if-false, if-when, if-both}
 use Rattle.choice.proofs.RankLaws.{same-order, clock-below, candidate-named, rank-candidate}
-use Rattle.choice.proofs.RankingLaws.{Once, Under, numbers, none-behind, ordered-same, place-member, behind-last, without-members, without-there, without-ordered, placed-members, placed-there, with-ordered}
+use Rattle.choice.proofs.RankingLaws.{Once, Under, numbers, none-behind, ordered-same, behind-last, without-members, without-there, without-ordered, placed-members, placed-there, with-ordered}
 
 -- each of a list has its bits
 abbrev Fit : List Candidate → Type 0

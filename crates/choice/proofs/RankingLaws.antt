@@ -1,6 +1,6 @@
 -- Laws of the ranking: it is in order, it is the clocks of the list in another order, and there is only one such list; its head is the best; and one candidate that changes is taken out and put in.
 use mathlib.Core.Path.{_≡_, refl, sym, ap, _∙_, subst}
-use mathlib.Core.Bool.{Bool, true, false, cond}
+use mathlib.Core.Bool.{Bool, true, false}
 use mathlib.Core.List.{List, [], _∷_, _++_, List·Memᴰ, List·Memᴰ·head, List·Memᴰ·tail, List·Memᴰ·cases-cons, List·Memᴰ·not-nil}
 use mathlib.Core.Logic.{_⊎_, inl, inr, ⊎-elim}
 use Prim.Native.Nat.{ℕ, zero, suc, _+_, _%_, _<_, _≤_}
@@ -9,10 +9,8 @@ use native.Mathlib.Omega.{arith}
 use borrow.Author.Tests.{ltb-true, ltb-false, eqb-true, eqb-false, eq-eqb, ne-eqb, le-ltb, lt-ltb}
 use lib.Dec.{ltb, eqb}
 use lib.ListN.{length}
-use Rattle.choice.specs.Precedence.{keyOf}
 use Rattle.choice.specs.Choose.{rankOf, betterOf, bestOf, numberOf}
-use Rattle.choice.specs.Rank.{CandidateFits}
-use Rattle.choice.specs.Least.{noRank, rankIn}
+use Rattle.choice.specs.Least.{rankIn}
 use Rattle.choice.specs.Permutation.{Permutation, empty, placed}
 use Rattle.choice.specs.Ranking.{isBetter, insertedOf, placedOf, rankingOf, rankedAt, Ordered, IsClock, clocksIn, isBelow, howManyBelow, withoutNumber, withCandidate}
 use Rattle.choice.specs.declared.Precedence.{Precedence}

@@ -1,5 +1,4 @@
 -- The candidate at the place of the ranking that is kept.
-use borrow.Author.Needs.{needs}
 use mathlib.Core.Path.{_∙_}
 use Rattle.bridge.proofs.RankingLaws.{ranking-keeps}
 use Rattle.bridge.proofs.Ranking.{kept-place}

@@ -9,7 +9,6 @@ use Rattle.samples.specs.Keep.{LawfulSamples}
 use Rattle.choice.specs.Choose.{numberOf}
 use Rattle.frame.specs.Frame.{frameLength}
 use Rattle.port.specs.Send.{sendingDone, sendingBytes}
-use Rattle.port.specs.declared.Port.{Port}
 use Rattle.port.specs.declared.PortDone.{PortDone}
 use Rattle.port.specs.declared.Sending.{Sending}
 use Rattle.bridge.specs.Table.{portAt, samplesAt}

@@ -5,7 +5,7 @@ use mathlib.Core.Logic.{_⊎_, inl, inr, ⊎-elim}
 use Prim.Native.Nat.{ℕ, _<_, _≤_}
 use native.Mathlib.Omega.{arith}
 use lib.ListN.{length}
-use Rattle.choice.specs.Places.{places, rankAt, placeIn, closedAt, insertedIn, Whole}
+use Rattle.choice.specs.Places.{places, rankAt, placeIn, closedAt, insertedIn}
 use Rattle.choice.proofs.RankLaws.{same-ranks}
 use Rattle.choice.proofs.PlacesLaws.{kept-whole, kept-same, kept-moved, kept-new}
 use Rattle.choice.proofs.PlaceLoops.{closed-length}
