@@ -2,7 +2,7 @@
 use mathlib.Core.Path.{_≡_, refl, sym, ap, _∙_, subst}
 use mathlib.Core.Bool.{Bool, true, false, cond}
 use mathlib.Core.List.{List, [], _∷_, _++_}
-use Prim.Native.Nat.{ℕ, zero, suc, _+_, _-_, _*_, _%_, _<_, _≤_}
+use Prim.Native.Nat.{ℕ, zero, suc, _+_, _-_, _*_, _<_, _≤_}
 use native.Mathlib.Nat.{add-zero, zero-add}
 use native.Mathlib.Numerals.{add-one}
 use native.Mathlib.Omega.{arith}
@@ -10,6 +10,7 @@ use lib.Dec.{ltb, eqb}
 use lib.ListN.{length, take, drop, getD, set, length-append, length-drop, List·getD-append, drop-of-length-le}
 use lib.Seq.{drop-cons, drop-drop, getD-drop, getD-append-add, length-take-le, take-at}
 use Rattle.choice.specs.Rank.{lastNumber, worthOf}
+use Rattle.choice.specs.Least.{portIn}
 use Rattle.choice.specs.Places.{places, Whole, rankAt, placeIn, closedAt, insertedIn}
 use Rattle.choice.specs.declared.Rank.{Rank}
 use Rattle.numbers.proofs.Branches.{if-true, if-false, if-when}
@@ -47,16 +48,16 @@ module _ (number : ℕ) (s : List ℕ) where
 
   module _ (place : ℕ) (c : Searched place) where
     -- the number is that of this place, or stands further on
-    place-there : place < places → placeIn number (from s place) ≡ cond (eqb (rankAt s place .1 % 256) number) 0 (suc (placeIn number (from s (place + 1))))
+    place-there : place < places → placeIn number (from s place) ≡ cond (eqb (portIn (rankAt s place .1)) number) 0 (suc (placeIn number (from s (place + 1))))
     unfolding placeIn
     place-there h = ap (placeIn number) (from-place s place (c .whole) h)
 
-    pub search-found : place < places → eqb (rankAt s place .1 % 256) number ≡ true → place ≡ placeIn number s
+    pub search-found : place < places → eqb (portIn (rankAt s place .1)) number ≡ true → place ≡ placeIn number s
     search-found h e =
         let here : placeIn number (from s place) ≡ 0 = place-there h ∙ sym (if-true _ 0 _ e) in
         omega (arith, c .so-far, here)
 
-    pub search-more : place < places → eqb (rankAt s place .1 % 256) number ≡ false → Searched (place + 1)
+    pub search-more : place < places → eqb (portIn (rankAt s place .1)) number ≡ false → Searched (place + 1)
     search-more h e =
         let later : placeIn number (from s place) ≡ suc (placeIn number (from s (place + 1))) = place-there h ∙ sym (if-false _ 0 _ e) in
         record { whole = c .whole; within = omega (arith, h); so-far = omega (arith, c .so-far, later) }
@@ -69,6 +70,10 @@ module _ (number : ℕ) (s : List ℕ) where
 
 -- ---- a place closed
 
+-- where the numbers of the last place stand
+abbrev pub lastPlace : ℕ
+lastPlace = 16
+
 module _ (place : ℕ) (s : List ℕ) (whole : Whole s) (h : place < places) where
   abbrev behind : List ℕ
   behind = drop (2 * place + 2) s
@@ -76,7 +81,7 @@ module _ (place : ℕ) (s : List ℕ) (whole : Whole s) (h : place < places) whe
   front-length : length (take (2 * place) s) ≡ 2 * place
   front-length = length-take-le (2 * place) s (omega (arith, whole, h))
 
-  behind-length : length behind + (2 * place + 2) ≡ 18
+  behind-length : length behind + (2 * place + 2) ≡ 2 * places
   behind-length = omega (arith, length-drop (2 * place + 2) s, whole, h)
 
   pub closed-length : length (closedAt place s) ≡ length s
@@ -87,7 +92,7 @@ module _ (place : ℕ) (s : List ℕ) (whole : Whole s) (h : place < places) whe
   -- where the loop stands
   pub record Closing (i : ℕ) (now : List ℕ) : Type 0 where
     pub low : 2 * place ≤ i
-    pub high : i ≤ 16
+    pub high : i ≤ lastPlace
     pub written : Written (closedAt place s) s i now
 
   pub closing-start : Closing (2 * place) s
@@ -105,7 +110,7 @@ module _ (place : ℕ) (s : List ℕ) (whole : Whole s) (h : place < places) whe
       let at : i ≡ length (take (2 * place) s) + (i - 2 * place) = omega (arith, front-length, low) in
       ap (λ (k : ℕ). getD (closedAt place s) k 0) at ∙ getD-append-add (take (2 * place) s) _ (i - 2 * place) 0
 
-  closed-moved : (i : ℕ) → 2 * place ≤ i → i < 16 → getD (closedAt place s) i 0 ≡ getD s (i + 2) 0
+  closed-moved : (i : ℕ) → 2 * place ≤ i → i < lastPlace → getD (closedAt place s) i 0 ≡ getD s (i + 2) 0
   closed-moved i low high =
       let there : 2 * place + 2 + (i - 2 * place) ≡ i + 2 = omega (arith, low) in
       closed-at i low
@@ -113,10 +118,10 @@ module _ (place : ℕ) (s : List ℕ) (whole : Whole s) (h : place < places) whe
       ∙ getD-drop (2 * place + 2) s (i - 2 * place) 0
       ∙ ap (λ (k : ℕ). getD s k 0) there
 
-  closed-last : (j : ℕ) → j < 2 → getD (closedAt place s) (16 + j) 0 ≡ lastNumber
+  closed-last : (j : ℕ) → j < 2 → getD (closedAt place s) (lastPlace + j) 0 ≡ lastNumber
   closed-last j small =
-      let at : 16 + j - 2 * place ≡ length behind + j = omega (arith, behind-length, h) in
-      closed-at (16 + j) (omega (arith, h))
+      let at : lastPlace + j - 2 * place ≡ length behind + j = omega (arith, behind-length, h) in
+      closed-at (lastPlace + j) (omega (arith, h))
       ∙ ap (λ (k : ℕ). getD (behind ++ (lastNumber ∷ lastNumber ∷ [])) k 0) at
       ∙ getD-append-add behind (lastNumber ∷ lastNumber ∷ []) j 0
       ∙ both j small
@@ -126,7 +131,7 @@ module _ (place : ℕ) (s : List ℕ) (whole : Whole s) (h : place < places) whe
       both (suc zero) l = refl
       both (suc (suc k)) l = absurd (omega (arith, l))
 
-  pub closing-more : (i : ℕ) (now : List ℕ) (q : ℕ) → Closing i now → i < 16 → q ≡ getD now (i + 2) 0 → Closing (i + 1) (set now i q)
+  pub closing-more : (i : ℕ) (now : List ℕ) (q : ℕ) → Closing i now → i < lastPlace → q ≡ getD now (i + 2) 0 → Closing (i + 1) (set now i q)
   closing-more i now q c below e = record {
     low = omega (arith, c .low);
     high = omega (arith, below);
@@ -135,13 +140,13 @@ module _ (place : ℕ) (s : List ℕ) (whole : Whole s) (h : place < places) whe
   }
 
   -- and then the last place
-  pub closing-last : (i : ℕ) (now : List ℕ) → Closing i now → 16 ≤ i → set (set now 16 lastNumber) 17 lastNumber ≡ closedAt place s
+  pub closing-last : (i : ℕ) (now : List ℕ) → Closing i now → lastPlace ≤ i → set (set now lastPlace lastNumber) (lastPlace + 1) lastNumber ≡ closedAt place s
   closing-last i now c above =
-      let at : i ≡ 16 = omega (arith, c .high, above) in
-      let first : Written (closedAt place s) s 16 now = subst (λ (k : ℕ). Written (closedAt place s) s k now) at (c .written) in
-      let second = written-more (closedAt place s) s 16 now first 0 lastNumber (omega (arith, whole)) (sym (closed-last 0 (omega arith))) in
-      let third = written-more (closedAt place s) s 17 _ second 0 lastNumber (omega (arith, whole)) (sym (closed-last 1 (omega arith))) in
-      written-all (closedAt place s) s 18 _ third 0 (omega (arith, whole))
+      let at : i ≡ lastPlace = omega (arith, c .high, above) in
+      let first : Written (closedAt place s) s lastPlace now = subst (λ (k : ℕ). Written (closedAt place s) s k now) at (c .written) in
+      let second = written-more (closedAt place s) s lastPlace now first 0 lastNumber (omega (arith, whole)) (sym (closed-last 0 (omega arith))) in
+      let third = written-more (closedAt place s) s (lastPlace + 1) _ second 0 lastNumber (omega (arith, whole)) (sym (closed-last 1 (omega arith))) in
+      written-all (closedAt place s) s (2 * places) _ third 0 (omega (arith, whole))
 
 -- ---- a rank put in
 

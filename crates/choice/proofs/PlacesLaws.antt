@@ -3,15 +3,15 @@ use mathlib.Core.Path.{_≡_, refl, sym, ap, _∙_, subst}
 use mathlib.Core.Bool.{Bool, true, false, cond}
 use mathlib.Core.List.{List, [], _∷_, _++_, List·Memᴰ, List·Memᴰ·head, List·Memᴰ·tail, List·Memᴰ·not-nil}
 use mathlib.Core.Logic.{_⊎_, inl, inr, ⊎-elim}
-use Prim.Native.Nat.{ℕ, zero, suc, _+_, _*_, _%_, _<_, _≤_}
+use Prim.Native.Nat.{ℕ, zero, suc, _+_, _*_, _<_, _≤_}
 use native.Mathlib.Nat.{le-of-lt, le-refl}
 use native.Mathlib.Omega.{arith}
 use borrow.Author.Tests.{ltb-true, ltb-false, eqb-true, eqb-false, ne-eqb, le-ltb, lt-ltb}
 use lib.Dec.{ltb, eqb}
-use lib.ListN.{length, take, drop, getD, set, replicate}
+use lib.ListN.{length, take, drop, getD, set, replicate, List·getD-eq-default}
 use Rattle.choice.specs.Choose.{rankOf, numberOf}
 use Rattle.choice.specs.Rank.{lastNumber, inNumbers, CandidateFits, Ranks, worthOf, candidateAt}
-use Rattle.choice.specs.Least.{rankIn}
+use Rattle.choice.specs.Least.{rankIn, portIn}
 use Rattle.choice.specs.Ranking.{isBetter, insertedOf, placedOf, rankedAt, Ordered, IsClock, withoutNumber, withCandidate}
 use Rattle.choice.specs.Places.{places, noNumber, placesOf, Whole, Keeps, Kept, rankAt, candidateIn, placeIn, closedAt, insertedIn}
 use Rattle.choice.specs.declared.Candidate.{Candidate}
@@ -19,7 +19,7 @@ use Rattle.choice.specs.declared.Candidate.the-variants.{Nothing, Clock}
 use Rattle.choice.specs.declared.Rank.{Rank}
 use Rattle.numbers.proofs.Branches.{if-true, if-false, if-when, if-both}
 use Rattle.choice.proofs.RankLaws.{same-order, clock-below, candidate-named, rank-candidate}
-use Rattle.choice.proofs.RankingLaws.{Once, Under, numbers, none-behind, ordered-same, behind-last, without-members, without-there, without-ordered, placed-members, placed-there, with-ordered}
+use Rattle.choice.proofs.RankingLaws.{Once, Under, numbers, none-behind, ordered-same, without-members, without-there, without-ordered, placed-members, placed-there, with-ordered}
 
 -- each of a list has its bits
 abbrev Fit : List Candidate → Type 0
@@ -122,18 +122,18 @@ placed-inserted k Nothing l f o clocks fit = none-inserted k l fit
 placed-inserted k (Clock p h n) l f o clocks fit = clock-inserted k (Clock p h n) l tt f o clocks fit
 
 -- one alone: its numbers at the first place, and those of none at all others
-pub alone-placed : {r : Rank} {c : Candidate} → Ranks r c → set (set (replicate 18 lastNumber) 0 (r .0)) 1 (r .1) ≡ placesOf places (placedOf c [])
+pub alone-placed : {r : Rank} {c : Candidate} → Ranks r c → set (set (replicate (2 * places) lastNumber) 0 (r .0)) 1 (r .1) ≡ placesOf places (placedOf c [])
 unfolding placesOf placedOf insertedOf inNumbers
-alone-placed {r} {c} x = (λ i. set (set (replicate 18 lastNumber) 0 (x .is i .0)) 1 (x .is i .1)) ∙ by c
+alone-placed {r} {c} x = (λ i. set (set (replicate (2 * places) lastNumber) 0 (x .is i .0)) 1 (x .is i .1)) ∙ by c
   where
-    by : (c : Candidate) → set (set (replicate 18 lastNumber) 0 (inNumbers c .0)) 1 (inNumbers c .1) ≡ placesOf places (placedOf c [])
+    by : (c : Candidate) → set (set (replicate (2 * places) lastNumber) 0 (inNumbers c .0)) 1 (inNumbers c .1) ≡ placesOf places (placedOf c [])
     by Nothing = refl
     by (Clock p h n) = refl
 
 -- ---- found by its number
 
 -- the last byte of a rank is the clock's number
-number-shown : (c : Candidate) → IsClock c → CandidateFits c → inNumbers c .1 % 256 ≡ numberOf c
+number-shown : (c : Candidate) → IsClock c → CandidateFits c → portIn (inNumbers c .1) ≡ numberOf c
 unfolding inNumbers rankOf
 number-shown Nothing ic f = absurd ic
 number-shown (Clock p h n) ic (pf, hf, nf) = omega arith
@@ -142,7 +142,7 @@ number-shown (Clock p h n) ic (pf, hf, nf) = omega arith
 nowhere : (n k : ℕ) → n < noNumber → placeIn n (placesOf k []) ≡ k
 unfolding placesOf placeIn inNumbers
 nowhere n zero small = refl
-nowhere n (suc k) small = sym (if-false (eqb (lastNumber % 256) n) _ _ (ne-eqb (lastNumber % 256) n (λ e. omega (arith, e, small)))) ∙ ap suc (nowhere n k small)
+nowhere n (suc k) small = sym (if-false (eqb (portIn lastNumber) n) _ _ (ne-eqb (portIn lastNumber) n (λ e. omega (arith, e, small)))) ∙ ap suc (nowhere n k small)
 
 -- ---- taken out
 
@@ -240,7 +240,7 @@ unfolding candidateIn
 kept-candidate {s} {l} k i =
     if-when (λ (c : Candidate). c ≡ rankedAt l i) (ltb i places)
     (λ e. rank-candidate (kept-rank k i (ltb-true i places e)))
-    (λ e. behind-last l i (omega (arith, k .within, ltb-false i places e)))
+    (λ e. sym (List·getD-eq-default l Nothing {n = i} (omega (arith, k .within, ltb-false i places e))))
 
 -- ---- a candidate that takes the place of what stood under its number
 

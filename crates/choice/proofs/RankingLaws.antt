@@ -3,14 +3,14 @@ use mathlib.Core.Path.{_≡_, refl, sym, ap, _∙_, subst}
 use mathlib.Core.Bool.{Bool, true, false}
 use mathlib.Core.List.{List, [], _∷_, _++_, List·Memᴰ, List·Memᴰ·head, List·Memᴰ·tail, List·Memᴰ·cases-cons, List·Memᴰ·not-nil}
 use mathlib.Core.Logic.{_⊎_, inl, inr, ⊎-elim}
-use Prim.Native.Nat.{ℕ, zero, suc, _+_, _%_, _<_, _≤_}
+use Prim.Native.Nat.{ℕ, zero, suc, _+_, _<_, _≤_}
 use native.Mathlib.Nat.{lt-trans, le-of-lt, add-zero, zero-add}
 use native.Mathlib.Omega.{arith}
 use borrow.Author.Tests.{ltb-true, ltb-false, eqb-true, eqb-false, eq-eqb, ne-eqb, le-ltb, lt-ltb}
 use lib.Dec.{ltb, eqb}
 use lib.ListN.{length}
 use Rattle.choice.specs.Choose.{rankOf, betterOf, bestOf, numberOf}
-use Rattle.choice.specs.Least.{rankIn}
+use Rattle.choice.specs.Least.{rankIn, portIn}
 use Rattle.choice.specs.Permutation.{Permutation, empty, placed}
 use Rattle.choice.specs.Ranking.{isBetter, insertedOf, placedOf, rankingOf, rankedAt, Ordered, IsClock, clocksIn, isBelow, howManyBelow, withoutNumber, withCandidate}
 use Rattle.choice.specs.declared.Precedence.{Precedence}
@@ -187,13 +187,7 @@ place-member [] i h = absurd (omega arith)
 place-member (y ∷ l) zero h = List·Memᴰ·head refl
 place-member (y ∷ l) (suc i) h = List·Memᴰ·tail (place-member l i (omega (arith, h)))
 
--- behind the last stands none
-pub behind-last : (l : List Candidate) (i : ℕ) → length l ≤ i → Nothing ≡ rankedAt l i
-behind-last [] i h = refl
-behind-last (c ∷ l) zero h = absurd (omega arith)
-behind-last (c ∷ l) (suc i) h = behind-last l i (omega (arith, h))
-
--- so a place at which a clock stands is one of the list's
+-- a place at which a clock stands is one of the list's
 pub clock-within : (l : List Candidate) (i : ℕ) → IsClock (rankedAt l i) → i < length l
 clock-within [] i c = absurd c
 clock-within (y ∷ l) zero c = omega arith
@@ -205,17 +199,17 @@ at-member [] i c e = absurd (subst IsClock (sym e) c)
 at-member (y ∷ l) zero c e = List·Memᴰ·head (sym e)
 at-member (y ∷ l) (suc i) c e = List·Memᴰ·tail (at-member l i c e)
 
--- a rank ends in its clock's number
-rank-number : (p : Precedence) (h n : ℕ) → n < 256 → rankOf p h n % 256 ≡ n
-unfolding rankOf
-rank-number p h n l = omega arith
-
 -- how many numbers there are
 abbrev pub numbers : ℕ
 numbers = 256
 
+-- a rank ends in its clock's
+rank-number : (p : Precedence) (h n : ℕ) → n < numbers → portIn (rankOf p h n) ≡ n
+unfolding rankOf
+rank-number p h n l = omega arith
+
 same-number : (p : Precedence) (h n : ℕ) (q : Precedence) (k m : ℕ) → n < numbers → m < numbers → rankOf p h n ≡ rankOf q k m → n ≡ m
-same-number p h n q k m a b e = sym (rank-number p h n a) ∙ ap (λ (r : ℕ). r % 256) e ∙ rank-number q k m b
+same-number p h n q k m a b e = sym (rank-number p h n a) ∙ ap portIn e ∙ rank-number q k m b
 
 numbered-small : (k : ℕ) (l : List Candidate) → Numbered k l → {p : Precedence} {h n : ℕ} → List·Memᴰ (Clock p h n) l → (k ≤ n) × (n < k + length l)
 numbered-small k l f m = let (i, number, within, at) = numbered-at k l f m in (omega (arith, number), omega (arith, number, within))

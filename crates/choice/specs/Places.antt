@@ -2,11 +2,12 @@
 use mathlib.Core.Path.{_≡_}
 use mathlib.Core.Bool.{cond}
 use mathlib.Core.List.{List, [], _∷_, _++_, List·Memᴰ}
-use Prim.Native.Nat.{ℕ, zero, suc, _+_, _*_, _%_, _<_, _≤_}
+use Prim.Native.Nat.{ℕ, zero, suc, _+_, _*_, _<_, _≤_}
 use lib.Dec.{ltb, eqb}
 use lib.ListN.{length, take, drop, getD}
 use Rattle.choice.specs.Choose.{numberOf}
 use Rattle.choice.specs.Rank.{lastNumber, inNumbers, CandidateFits, worthOf, candidateAt}
+use Rattle.choice.specs.Least.{portIn}
 use Rattle.choice.specs.Ranking.{Ordered, IsClock, withCandidate}
 use Rattle.choice.specs.declared.Candidate.{Candidate}
 use Rattle.choice.specs.declared.Candidate.the-variants.{Nothing}
@@ -55,7 +56,7 @@ candidateIn numbers place = cond (ltb place places) (candidateAt (rankAt numbers
 unfoldable pub placeIn : ℕ → List ℕ → ℕ
 placeIn number [] = 0
 placeIn number (x ∷ []) = 0
-placeIn number (x ∷ y ∷ l) = cond (eqb (y % 256) number) 0 (suc (placeIn number l))
+placeIn number (x ∷ y ∷ l) = cond (eqb (portIn y) number) 0 (suc (placeIn number l))
 
 -- without a place: those behind it move one place up, and the last is free
 unfoldable pub closedAt : ℕ → List ℕ → List ℕ

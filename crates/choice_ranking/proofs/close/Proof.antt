@@ -3,7 +3,7 @@ use mathlib.Core.Path.{refl}
 use Prim.Native.Nat.{_-_, _<_}
 use native.Mathlib.Omega.{arith}
 use Rattle.choice.specs.Places.{places, Whole}
-use Rattle.choice.proofs.PlaceLoops.{Closing, closing-start, closing-more, closing-last}
+use Rattle.choice.proofs.PlaceLoops.{lastPlace, Closing, closing-start, closing-more, closing-last}
 use Rattle.choice_ranking.proofs.close.Statement.{statement}
 use Rattle.choice_ranking.proofs.close.Tie as tie
 
@@ -11,10 +11,10 @@ abbrev Inv-loop : tie.InvT-loop
 Inv-loop ranking₀ place i₀ ranking i = (whole : Whole ranking₀) × (h : place < places) × Closing place ranking₀ whole h i ranking
 
 abbrev μ-loop : tie.MeasureT-loop
-μ-loop ranking₀ place i₀ ranking i = 16 - i
+μ-loop ranking₀ place i₀ ranking i = lastPlace - i
 
 -- the index is below the last place
-below : (c : tie.In-loop Inv-loop μ-loop) → c .before .loop .i < 16
+below : (c : tie.In-loop Inv-loop μ-loop) → c .before .loop .i < lastPlace
 below c = c .loop-test .taken
 
 loop-holds : tie.Need-loop-holds Inv-loop μ-loop
