@@ -626,19 +626,22 @@ fn scales_meet_at_a_known_date() {
     assert_eq!(on_scale(seconds, Scale::Ntp(37)), Ok(3_692_217_600));
 }
 
+/// Gives what a line prints that asks a bridge and leaves it as it was.
+fn asked(bridge: &Listed, line: &str) -> String {
+    let mut replay = Replay {
+        bridge: bridge.clone(),
+    };
+    let mut out = Vec::new();
+    replay.answer(line.as_bytes(), &mut out);
+    assert_eq!(replay.bridge, *bridge);
+    String::from_utf8_lossy(&out).into_owned()
+}
+
 /// Lines of timestamps and scales have numbers of up to 16 digits and leap seconds of two bytes, and leave the bridge as it was.
 #[test]
 fn lines_of_timestamps_have_their_form() {
     let bridge = Followed::on(&RATE_2, SECOND, 7).bridge;
-    let mut replay = Replay {
-        bridge: bridge.clone(),
-    };
-    let mut answer = |line: &str| {
-        let mut out = Vec::new();
-        replay.answer(line.as_bytes(), &mut out);
-        assert_eq!(replay.bridge, bridge);
-        String::from_utf8_lossy(&out).into_owned()
-    };
+    let answer = |line: &str| asked(&bridge, line);
     assert_eq!(answer("X a 44c"), "00 00000000000A 00000001");
     assert_eq!(answer("X 10000000000 0"), "02");
     assert_eq!(
@@ -1004,15 +1007,7 @@ fn the_ranking_has_each_candidate_once() {
 fn lines_of_places_have_their_form() {
     let mut bridge = linked(2, Some(9));
     hear(&mut bridge, 2, 1, 0);
-    let mut replay = Replay {
-        bridge: bridge.clone(),
-    };
-    let mut answer = |line: &str| {
-        let mut out = Vec::new();
-        replay.answer(line.as_bytes(), &mut out);
-        assert_eq!(replay.bridge, bridge);
-        String::from_utf8_lossy(&out).into_owned()
-    };
+    let answer = |line: &str| asked(&bridge, line);
     assert_eq!(answer("C"), "02 01");
     assert_eq!(answer("K 0"), "02 01");
     assert_eq!(answer("K 1"), "00 00");
