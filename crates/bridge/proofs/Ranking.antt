@@ -132,17 +132,25 @@ silent-not-shown b lawful i h e place = by (rankedAt (freshRanking (b .setup) (b
         let index : j ≡ i + 1 = omega (arith, number, shown) in
         subst IsClock (sym at ∙ ap (rankedAt (candidates b)) index ∙ silent-none b i e) tt
 
+-- the state with other links, and what a port announces there that lost its own
+abbrev relinked : Bridge → ℕ → Bridge
+relinked b mask = withLinks b mask (each (relinkedPort (b .links) mask) 0 (b .ports))
+
+lost-silent : (b : Bridge) → Lawful b → (mask i : ℕ) → i < mostPorts → losesLink (b .links) mask i ≡ true → portAt (relinked b mask .ports) i .announcement ≡ Silent
+lost-silent b lawful mask i h lost =
+    let turn = relinkedPort (b .links) mask in
+    sym (ap (λ (p : Port). p .announcement) (relinked-lost (b .links) mask i (portAt (b .ports) i) lost ∙ sym (each-record turn (b .ports) i (omega (arith, h, lawful .records)))))
+
 -- A LINK THAT GOES DOWN: the port is shown at no place after that call
 pub lost-not-shown : (b : Bridge) (mask i : ℕ) → Lawful b → i < mostPorts → linkNo (linksOf b mask .answer) ≡ 0 → bit (b .links) i ≡ 1 → bit mask i ≡ 0
     → NotShown (linksOf b mask .next) i
-unfolding linksOf relinkedPort
+unfolding linksOf
 lost-not-shown b mask i lawful h =
     if-when (λ (d : Linked). Lawful (d .next) → linkNo (d .answer) ≡ 0 → bit (b .links) i ≡ 1 → bit mask i ≡ 0 → NotShown (d .next) i) (maskBeyond (b .setup .n) mask)
     (λ _ _ z _ _. absurd (omega (arith, z)))
     (λ _ left _ was now.
-    silent-not-shown _ left i h
-    (let lost : losesLink (b .links) mask i ≡ true = rw (was, now) refl in
-    sym (ap (λ (p : Port). p .announcement) (relinked-lost (b .links) mask i (portAt (b .ports) i) lost ∙ sym (each-record (relinkedPort (b .links) mask) (b .ports) i (omega (arith, h, lawful .records)))))))
+    let lost : losesLink (b .links) mask i ≡ true = rw (was, now) refl in
+    silent-not-shown _ left i h (lost-silent b lawful mask i h lost))
     (links-lawful b mask lawful)
 
 -- A PORT THAT AGED likewise
@@ -164,33 +172,24 @@ aged-not-shown b at i lawful h z e old =
 
 -- ---- the runner-up, over a call
 
-module _ (b : Bridge) (lawful : Lawful b) (mask i : ℕ) (h : i < mostPorts) (alone : (j : ℕ) → losesLink (b .links) mask j ≡ eqb j i) where
-  -- the state with the new links
-  abbrev relinked : Bridge
-  relinked = withLinks b mask (each (relinkedPort (b .links) mask) 0 (b .ports))
-
-  -- this port's record is empty, and every other one as it was
-  emptied : portAt (relinked .ports) i .announcement ≡ Silent
-  emptied =
-      let lost = alone i ∙ eq-eqb i i refl in
-      sym (ap (λ (p : Port). p .announcement) (relinked-lost (b .links) mask i (portAt (b .ports) i) lost ∙ sym (each-record (relinkedPort (b .links) mask) (b .ports) i (omega (arith, h, lawful .records)))))
-
-  other-port : (j : ℕ) → (j ≡ i → ⊥) → portAt (relinked .ports) j ≡ portAt (b .ports) j
+module _ (b : Bridge) (mask i : ℕ) (alone : (j : ℕ) → losesLink (b .links) mask j ≡ eqb j i) where
+  -- every record but this one is as it was
+  other-port : (j : ℕ) → (j ≡ i → ⊥) → portAt (relinked b mask .ports) j ≡ portAt (b .ports) j
   other-port j other = by (ltb j (length (b .ports))) refl where
-    by : (t : Bool) → ltb j (length (b .ports)) ≡ t → portAt (relinked .ports) j ≡ portAt (b .ports) j
+    by : (t : Bool) → ltb j (length (b .ports)) ≡ t → portAt (relinked b mask .ports) j ≡ portAt (b .ports) j
     by true e =
         each-record (relinkedPort (b .links) mask) (b .ports) j (ltb-true _ _ e)
         ∙ sym (relinked-kept (b .links) mask j (portAt (b .ports) j) (alone j ∙ ne-eqb j i other))
     by false e =
         let beyond = ltb-false j (length (b .ports)) e in
-        List·getD-eq-default (relinked .ports) emptyPort {n = j} (omega (arith, beyond, each-length (relinkedPort (b .links) mask) 0 (b .ports)))
+        List·getD-eq-default (relinked b mask .ports) emptyPort {n = j} (omega (arith, beyond, each-length (relinkedPort (b .links) mask) 0 (b .ports)))
         ∙ sym (List·getD-eq-default (b .ports) emptyPort {n = j} beyond)
 
-  other-candidate : (n : ℕ) → (n ≡ i + 1 → ⊥) → rankedAt (candidates relinked) n ≡ rankedAt (candidates b) n
+  other-candidate : (n : ℕ) → (n ≡ i + 1 → ⊥) → rankedAt (candidates (relinked b mask)) n ≡ rankedAt (candidates b) n
   other-candidate zero other = refl
   other-candidate (suc j) other =
-      ap (rankedAt (candidates relinked)) (sym (add-one j))
-      ∙ candidate-there relinked j
+      ap (rankedAt (candidates (relinked b mask))) (sym (add-one j))
+      ∙ candidate-there (relinked b mask) j
       ∙ ap (λ (p : Port). candidateOf (j + 1) (p .announcement)) (other-port j (λ e. other (omega (arith, e))))
       ∙ sym (candidate-there b j)
       ∙ ap (rankedAt (candidates b)) (add-one j)
@@ -203,10 +202,10 @@ runner-up-next b mask i lawful h c z alone =
     if-when (λ (d : Linked). Lawful (d .next) → linkNo (d .answer) ≡ 0 → chosenOf (d .next) ≡ rankedOf b 1) (maskBeyond (b .setup .n) mask)
     (λ _ _ z. absurd (omega (arith, z)))
     (λ _ left _.
-    let next = withLinks b mask (each (relinkedPort (b .links) mask) 0 (b .ports)) in
+    let next = relinked b mask in
     let head = chosen-head b lawful ∙ c in
     sym (chosen-head next left)
     ∙ second-next (candidates b) (candidates next) (numbered b lawful) (numbered next left) (omega (arith, nine b lawful)) (omega (arith, nine next left)) (i + 1) (omega (arith, h))
-    (other-candidate b lawful mask i h alone) (silent-none next i (emptied b lawful mask i h alone)) (subst IsClock (sym head) tt) (ap numberOf head))
+    (other-candidate b mask i alone) (silent-none next i (lost-silent b lawful mask i h (alone i ∙ eq-eqb i i refl))) (subst IsClock (sym head) tt) (ap numberOf head))
     (links-lawful b mask lawful)
     z
