@@ -4,10 +4,10 @@ use crate::answer::{
     Answer, BAD_LENGTH, BAD_SETUP, BEYOND_RANGE, DONE, NO_CLOCK, NO_LINK, OUT_OF_RANGE,
     OUT_OF_REACH, OUT_OF_SEQUENCE, TOO_FEW_SAMPLES,
 };
-use crate::frame::{self, Fields, FRAME_LEN, MAC_LEN};
+use crate::frame::{self, Fields, FRAME_LEN, MAC_LEN, PRECEDENCE_WORST};
 use crate::order::{InTurn, Order, Places};
 use crate::port::{Heard, Port};
-use crate::rules::{self, DELAY_MOST, HOP_NONE, REACH_END, STAMPED_MOST};
+use crate::rules::{self, DELAY_MOST, HOP_LAST, HOP_NONE, REACH_END, STAMPED_MOST};
 use crate::samples::{Sample, Samples};
 use crate::times::{distance, grand, is_local, next_count, spread};
 use std::ops::RangeInclusive;
@@ -22,12 +22,25 @@ pub const TIMEOUT_DEFAULT: u64 = 1 << 39;
 pub const BACK_MOST: u64 = (1 << 39) - 1;
 /// The back time where none is given.
 pub const BACK_DEFAULT: u64 = 16_492_674_417;
+/// The ports that a listener has.
+pub const LISTENER_PORTS: u8 = 1;
+/// The back time that a listener has.
+pub const LISTENER_BACK: u64 = 0;
 /// The number that stands for the station's own clock.
 pub const OWN: u8 = 0;
+
+/// What a station is set up as: a full bridge, which sends the chosen clock on, or a listener, which sends so that its neighbour can measure the cable.
+#[derive(Clone, Copy, Debug, Default, PartialEq, Eq)]
+pub enum Profile {
+    #[default]
+    Full,
+    Listener,
+}
 
 /// What a setup is given.
 #[derive(Clone, Copy, Debug, Default, PartialEq, Eq)]
 pub struct Plan {
+    pub profile: Profile,
     pub ports: u8,
     pub mac: [u8; MAC_LEN],
     pub precedence: u128,
@@ -40,6 +53,7 @@ pub struct Plan {
 /// What a setup settles for the whole bridge.
 #[derive(Clone, Copy, Debug, Default, PartialEq, Eq)]
 pub struct Settings {
+    pub profile: Profile,
     pub mac: [u8; MAC_LEN],
     pub precedence: u128,
     pub capable: bool,
@@ -138,9 +152,13 @@ impl<T: Table, O: Order> Bridge<T, O> {
         if wanted.is_empty() || !TIMEOUTS.contains(&timeout) || back > BACK_MOST || too_slow {
             return None;
         }
+        if plan.profile == Profile::Listener && !plan.only_listens(back) {
+            return None;
+        }
         let ports: Vec<Port> = wanted.iter().map(|delay| Port::new(*delay)).collect();
         Some(Bridge {
             settings: Settings {
+                profile: plan.profile,
                 mac: plan.mac,
                 precedence: plan.precedence,
                 capable: plan.capable,
@@ -213,15 +231,38 @@ impl<T: Table, O: Order> Bridge<T, O> {
         Ok((chosen, older, newer))
     }
 
-    /// Gives the chosen clock, its newer error and the grand time for a departure, or refuses.
-    fn departing(&mut self, departure: u64) -> Result<(Chosen, i32, u128), Answer> {
+    /// Gives the fields of a frame that tell of a clock, those of a station and of a link being zeros, or refuses.
+    fn told(&mut self, departure: u64) -> Result<Fields, Answer> {
+        match self.settings.profile {
+            Profile::Full => self.told_of_chosen(departure),
+            Profile::Listener => Ok(told_by_listener()),
+        }
+    }
+
+    /// Gives the fields that tell of the chosen clock, with the grand time for a departure, or refuses.
+    fn told_of_chosen(&mut self, departure: u64) -> Result<Fields, Answer> {
         let (chosen, older, newer) = self.followed()?;
         if spread(departure, newer.local) >= REACH_END {
             return Err(OUT_OF_REACH);
         }
         let back = self.settings.back;
         let sent = rules::sent_grand(older.point(), newer.point(), back, departure);
-        Ok((chosen, newer.error, as_grand(sent)?))
+        Ok(Fields {
+            precedence: chosen.precedence,
+            hop: chosen.hop,
+            grand: as_grand(sent)?,
+            error: newer.error,
+            ..Fields::default()
+        })
+    }
+}
+
+/// Gives the fields that tell of a clock in a listener's frame: the worst precedence, the last hop, and grand time and error zero.
+fn told_by_listener() -> Fields {
+    Fields {
+        precedence: PRECEDENCE_WORST,
+        hop: HOP_LAST,
+        ..Fields::default()
     }
 }
 
@@ -231,6 +272,13 @@ fn as_grand(time: i128) -> Result<u128, Answer> {
         Ok(time as u128)
     } else {
         Err(BEYOND_RANGE)
+    }
+}
+
+impl Plan {
+    /// Says whether ports, own clock and back time are those that a listener has.
+    fn only_listens(&self, back: u64) -> bool {
+        self.ports == LISTENER_PORTS && !self.capable && back == LISTENER_BACK
     }
 }
 
@@ -373,22 +421,19 @@ impl<T: Table, O: Order> Calls for Bridge<T, O> {
             return BAD_LENGTH;
         }
         let count = self.ports.as_mut()[place].use_count();
-        let (chosen, error, sent) = match self.departing(departure) {
-            Ok(found) => found,
+        let told = match self.told(departure) {
+            Ok(told) => told,
             Err(refusal) => return refusal,
         };
         let echo = self.ports.as_ref()[place].record.echo;
         let (that_tx, that_rx) = echo.unwrap_or((0, 0));
         let fields = Fields {
             sa: self.settings.mac,
-            precedence: chosen.precedence,
-            hop: chosen.hop,
             count,
-            grand: sent,
             local: departure,
             that_tx,
             that_rx,
-            error,
+            ..told
         };
         frame::write(&fields, output)
     }

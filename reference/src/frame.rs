@@ -9,6 +9,8 @@ use std::ops::Range;
 pub const FRAME_LEN: usize = 64;
 /// How many bytes a precedence has.
 pub const PRECEDENCE_LEN: usize = 13;
+/// The worst precedence, of thirteen bytes FF.
+pub const PRECEDENCE_WORST: u128 = (1 << (8 * PRECEDENCE_LEN)) - 1;
 /// How many bytes a MAC address has.
 pub const MAC_LEN: usize = 6;
 

@@ -1,7 +1,7 @@
 //! Lines that each make one call of a bridge.
 
 use crate::answer::{Answer, BAD_LINE, DONE, OUT_OF_RANGE};
-use crate::bridge::{Calls, Plan, PORTS_MOST};
+use crate::bridge::{Calls, Plan, Profile, PORTS_MOST};
 use crate::frame::{self, Fields, MAC_LEN, PRECEDENCE_LEN};
 use crate::hex::{self, GRAND_DIGITS, LOCAL_DIGITS, NANOSECONDS_DIGITS, SECONDS_DIGITS};
 use crate::program::Program;
@@ -160,7 +160,8 @@ impl<C: Calls> Replay<C> {
         }
         let mut rest = Rest::of(line);
         match rest.part()? {
-            b"S" => self.setup(rest, out),
+            b"S" => self.setup(Profile::Full, rest, out),
+            b"P" => self.setup(Profile::Listener, rest, out),
             b"L" => self.links(rest, out),
             b"O" => self.own_clock(rest, out),
             b"R" => self.receive(rest, out),
@@ -182,21 +183,9 @@ impl<C: Calls> Replay<C> {
         }
     }
 
-    /// Plays a setup.
-    fn setup(&mut self, mut rest: Rest, out: &mut Vec<u8>) -> Option<()> {
-        let mut plan = Plan {
-            ports: rest.byte()?,
-            mac: rest.exactly::<MAC_LEN>()?,
-            precedence: rest.precedence()?,
-            capable: rest.flag()?,
-            timeout: rest.number_unless(b"D")?,
-            back: rest.number_unless(b"D")?,
-            delays: [None; PORTS_MOST],
-        };
-        for delay in &mut plan.delays {
-            *delay = rest.number_unless(b"M")?;
-        }
-        rest.end()?;
+    /// Plays a setup as a profile.
+    fn setup(&mut self, profile: Profile, rest: Rest, out: &mut Vec<u8>) -> Option<()> {
+        let plan = planned(profile, rest)?;
         hex::put_byte(out, self.bridge.setup(&plan));
         Some(())
     }
@@ -295,6 +284,34 @@ impl<C: Calls> Replay<C> {
             Err(refusal) => hex::put_byte(out, refusal),
         }
         Some(())
+    }
+}
+
+/// Gives the plan of a setup as a profile.
+fn planned(profile: Profile, mut rest: Rest) -> Option<Plan> {
+    let mut plan = Plan {
+        profile,
+        ports: rest.byte()?,
+        mac: rest.exactly::<MAC_LEN>()?,
+        precedence: rest.precedence()?,
+        capable: rest.flag()?,
+        timeout: rest.number_unless(b"D")?,
+        back: rest.number_unless(b"D")?,
+        delays: [None; PORTS_MOST],
+    };
+    for delay in &mut plan.delays {
+        *delay = rest.number_unless(b"M")?;
+    }
+    rest.end()?;
+    Some(plan)
+}
+
+/// Gives the plan in a line that sets a listener up.
+pub fn listener_in(line: &[u8]) -> Option<Plan> {
+    let mut rest = Rest::of(line);
+    match rest.part()? {
+        b"P" => planned(Profile::Listener, rest),
+        _ => None,
     }
 }
 

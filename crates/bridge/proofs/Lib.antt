@@ -16,7 +16,10 @@ pub mod Sent
 pub mod Line
 pub mod Records
 pub mod Counts
+pub mod Heard
 pub mod Hops
+pub mod Listeners
+pub mod ListenerCases
 pub mod Beyond
 pub mod Boards
 pub mod Unique

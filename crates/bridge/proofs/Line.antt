@@ -1,4 +1,4 @@
--- Demand 3 on the frame: where Send answers 0, the ten bytes of grandTime that it wrote lie less than `bound` units from the exact line
+-- Demand 3 on the frame: where Send of a full bridge answers 0, the ten bytes of grandTime that it wrote lie less than `bound` units from the exact line
 -- through the oldest and the newest kept sample of the chosen clock, read at t less backTime, plus backTime, across the wrap.
 use mathlib.Core.Path.{_≡_, sym, ap, _∙_, subst}
 use mathlib.Core.List.{List}
@@ -11,7 +11,7 @@ use Rattle.timeline.specs.Sent.{reachOf}
 use Rattle.timeline.specs.Line.{bound, NearLine}
 use Rattle.frame.specs.Frame.{frameLength}
 use Rattle.bridge.specs.Table.{portAt}
-use Rattle.bridge.specs.State.{Lawful}
+use Rattle.bridge.specs.State.{Lawful, FullBridge}
 use Rattle.bridge.specs.Chosen.{chosenOf}
 use Rattle.bridge.specs.Send.{chosenSamples, sendingAt, sendOf, sendBytes}
 use Rattle.bridge.specs.Demands.{grandStart, grandBytes, OnLine}
@@ -23,16 +23,16 @@ use Rattle.bridge.proofs.TableLaws.{chosen-lawful}
 use Rattle.bridge.proofs.Sent.{Wrote, wrote}
 
 -- the grand time and errorTime of a frame that was written are read off the chosen clock's samples
-wrote-read-off : {b : Bridge} {port t : ℕ} {out left : List ℕ} (w : Wrote b port t out left) → ReadOff (chosenSamples b) (record { 0 = t }) (b .setup .sender .back) (w .fields)
+wrote-read-off : {b : Bridge} {port t : ℕ} {out left : List ℕ} (w : Wrote b port t out left) → FullBridge b → ReadOff (chosenSamples b) (record { 0 = t }) (b .setup .sender .back) (w .fields)
 unfolding sendingAt
-wrote-read-off {b} {port} {t} w =
-    sending-read-off (chosenOf b) (chosenSamples b) (b .setup .sender) (record { 0 = t }) (portAt (b .ports) (port - 1)) (w .fields) (w .sending)
+wrote-read-off {b} {port} {t} w full =
+    sending-read-off (chosenOf b) (chosenSamples b) (b .setup .sender) (record { 0 = t }) (portAt (b .ports) (port - 1)) (w .fields) (w .sending) full
 
 -- DEMAND 3
-pub sent-frame-near : (b : Bridge) (port t : ℕ) (out : List ℕ) → Lawful b → sendOf b port t (length out) .answer ≡ 0 → OnLine b t (sendBytes b port t out)
-sent-frame-near b port t out h e =
+pub sent-frame-near : (b : Bridge) (port t : ℕ) (out : List ℕ) → Lawful b → FullBridge b → sendOf b port t (length out) .answer ≡ 0 → OnLine b t (sendBytes b port t out)
+sent-frame-near b port t out h full e =
     let w = wrote b port t out e in
-    let r = wrote-read-off w in
+    let r = wrote-read-off w full in
     let f = w .fields in
     let lawful = chosen-lawful (chosenOf b) (b .clock) (b .ports) (h .clock-lawful) (h .ports-lawful) in
     let number : units (f .grand) ≡ numberAt (sendBytes b port t out) grandStart grandBytes =

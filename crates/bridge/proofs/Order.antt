@@ -1,6 +1,6 @@
 -- The order of refusals of each call on the state: the number given is the lowest that applies; the own clock tests 2, 10, 8.
 use mathlib.Core.Path.{_≡_, refl, sym, _∙_, subst}
-use mathlib.Core.Bool.{Bool, true, false, cond, true≢false}
+use mathlib.Core.Bool.{Bool, true, false, not, cond, true≢false}
 use mathlib.Core.List.{List, [], _∷_, _++_}
 use mathlib.Core.Logic.{_⊎_, inl, inr, ⊎-elim}
 use Prim.Native.Nat.{ℕ, zero, suc, _+_, _-_, _/_, _^_, _<_, _≤_}
@@ -22,10 +22,13 @@ use Rattle.choice.specs.Choose.{chosenHop}
 use Rattle.frame.specs.Frame.{fieldsOf}
 use Rattle.frame.specs.Read.{rowsOf, readRefusal, readAs, readOf}
 use Rattle.frame.specs.Order.{readConditions}
+use Rattle.port.specs.Order.{departureConditions}
+use Rattle.port.specs.declared.Profile.{Profile}
+use Rattle.port.specs.declared.Profile.the-variants.{Full, Listener}
 use Rattle.port.specs.declared.Setting.{Setting}
 use Rattle.bridge.specs.Arguments.{bit, hasLink, onPort, portRefusal, sendRefusal, ownClockRefusal, maskBeyond}
 use Rattle.bridge.specs.Table.{portAt, samplesAt}
-use Rattle.bridge.specs.Fits.{delayFits, delaysFit, setupFits}
+use Rattle.bridge.specs.Fits.{delayFits, delaysFit, profileFits, setupFits}
 use Rattle.bridge.specs.State.{Lawful, answers, refusedOr}
 use Rattle.bridge.specs.Setup.{freshOf, noBridge, setupOf}
 use Rattle.bridge.specs.Links.{linksOf, linkNo}
@@ -35,12 +38,12 @@ use Rattle.bridge.specs.Age.{ageOf}
 use Rattle.bridge.specs.Chosen.{chosenOf}
 use Rattle.bridge.specs.Send.{chosenSamples, sendingAt, sendOf}
 use Rattle.bridge.specs.Drift.{driftAt}
-use Rattle.bridge.specs.Order.{Above, FixedAbove, setupConditions, BitBeyond, linksConditions, ageConditions, driftConditions, ownClockConditions, portConditions, heardConditions, receiveConditions, sendConditions}
+use Rattle.bridge.specs.Order.{Above, FixedAbove, ListenerOtherwise, setupConditions, BitBeyond, linksConditions, ageConditions, driftConditions, ownClockConditions, portConditions, heardConditions, receiveConditions, sendConditions}
 use Rattle.bridge.specs.declared.Setup.{Setup}
 use Rattle.bridge.specs.declared.Bridge.{Bridge}
 use Rattle.bridge.specs.declared.Done.{Done}
 use Rattle.bridge.specs.declared.Linked.{Linked}
-use Rattle.refusals.proofs.Order.{ascends, first-lowest, same-number, Tells, Fails, less-tells, most-tells, less-fails, most-fails, first-if, fails-same, Checks, check, check-both, checked, either-fails, first-stays, first-more}
+use Rattle.refusals.proofs.Order.{ascends, first-lowest, same-number, Tells, Fails, less-tells, most-tells, less-fails, most-fails, same-fails, first-if, fails-same, Checks, check, check-both, checked, either-fails, first-stays, first-more}
 use Rattle.frame.proofs.Order.{first-unless, read-order}
 use Rattle.port.proofs.Order.{frame-order, reading-order, departure-order}
 use Rattle.bridge.proofs.TableLaws.{link-beyond, chosen-lawful}
@@ -70,6 +73,16 @@ delays-fail (suc n) (s ∷ settings) = fails-same (⊎-elim at-first at-next) sp
     split (zero, l, h) = inl h
     split (suc i, l, h) = inr (i, omega (arith, l), h)
 
+-- a profile that does not fit is a listener's, set up otherwise
+profile-fails : (profile : Profile) (n : ℕ) (capable : Bool) (back : ℕ) → Fails (profileFits profile n capable back) (ListenerOtherwise profile n capable back)
+unfolding profileFits
+profile-fails Full n capable back = record { is = true≢false; not = λ _ h. h }
+profile-fails Listener n capable back = either-fails (same-fails n 1) (either-fails (not-fails capable) (same-fails back 0))
+  where
+    not-fails : (t : Bool) → Fails (not t) (t ≡ true)
+    not-fails true = record { is = λ _. refl; not = λ e h. true≢false (sym e) }
+    not-fails false = record { is = λ e. absurd (true≢false e); not = λ _ h. true≢false (sym h) }
+
 -- each part of the test that Setup makes
 setup-checks : (s : Setup) → Checks 1 (setupFits s) (setupConditions s)
 unfolding setupFits
@@ -79,7 +92,7 @@ setup-checks s =
     (check-both (most-fails (2 ^ 36) (s .timeout))
     (check-both (most-fails (s .timeout) (2 ^ 46))
     (check-both (fails-same (λ h. omega (arith, h)) (λ h. omega (arith, h)) (less-fails (s .sender .back) (2 ^ 39)))
-    (check (delays-fail (s .n) (s .settings)))))))
+    (check-both (profile-fails (s .sender .profile) (s .n) (s .capable) (s .sender .back)) (check (delays-fail (s .n) (s .settings))))))))
 
 -- Setup refuses with 1 where one of its conditions holds, and else not
 pub setup-lowest : (s : Setup) → Lowest (setupConditions s) (setupOf s .answer)
@@ -188,11 +201,20 @@ receive-lowest b port frame arrival =
 
 -- ---- Send
 
--- the lowest of 2 to 4 and 10 to 13 whose condition holds
+-- no number of a send is below one before it, whatever the profile is
+send-ascends : (b : Bridge) (port t room : ℕ) → ascends 1 (sendConditions b port t room) ≡ true
+send-ascends b port t room = by (b .setup .sender .profile)
+  where
+    by : (profile : Profile)
+        → ascends 1 (portConditions (b .setup .n) (b .links) port t ++ (given 4 (room < 64) ∷ departureConditions profile (chosenOf b) (chosenSamples b) (record { 0 = t }) (b .setup .sender .back))) ≡ true
+    by Full = refl
+    by Listener = refl
+
+-- the lowest of 2 to 4, and of a full bridge 10 to 13, whose condition holds
 pub send-lowest : (b : Bridge) (port t room : ℕ) → Lawful b → Lowest (sendConditions b port t room) (sendOf b port t room .answer)
 unfolding sendOf sendingAt sendRefusal
 send-lowest b port t room l =
-    first-lowest 1 refl
+    first-lowest 1 (send-ascends b port t room)
     (refused-order b _ _ (portConditions (b .setup .n) (b .links) port t ++ (given 4 (room < 64) ∷ [])) _ refl
     (on-port-order (b .setup .n) (b .links) port t (first-unless (most-fails 64 room) (nowhere refl)))
     (departure-order (chosenOf b) (chosenSamples b) (b .setup .sender) (record { 0 = t }) (portAt (b .ports) (port - 1))

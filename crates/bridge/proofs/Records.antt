@@ -3,6 +3,7 @@ use mathlib.Core.Path.{_≡_, refl, sym, ap, _∙_, subst}
 use mathlib.Core.List.{List, [], _∷_}
 use Prim.Native.Nat.{ℕ, zero, suc, _-_, _<_, _≤_}
 use native.Mathlib.Nat.{zero-add}
+use native.Mathlib.Omega.{arith}
 use borrow.Author.Tests.{leb-true}
 use lib.Dec.{eqb, leb, lit≤}
 use lib.ListN.{length, set, replicate, length-set}
@@ -11,11 +12,13 @@ use Rattle.frame.specs.Read.{readOf}
 use Rattle.frame.specs.declared.Reading.{Reading}
 use Rattle.frame.specs.declared.Reading.the-variants as Readings
 use Rattle.port.specs.Record.{emptyPort, agedPort}
+use Rattle.port.specs.declared.Profile.the-variants.{Full, Listener}
 use Rattle.port.specs.declared.Port.{Port}
 use Rattle.bridge.specs.Table.{each, portAt, mostPorts, relinkedPort}
 use Rattle.bridge.specs.Arguments.{portRefusal, sendRefusal, ownClockRefusal, maskBeyond}
 use Rattle.bridge.specs.Fits.{setupFits}
 use Rattle.bridge.specs.declared.Setup.{Setup}
+use Rattle.bridge.specs.State.{FullBridge, Listens}
 use Rattle.bridge.specs.Setup.{setupOf}
 use Rattle.bridge.specs.Links.{linksOf}
 use Rattle.bridge.specs.Own.{ownClockOf}
@@ -110,6 +113,19 @@ run-alike b (c ∷ cs) =
     let rest = run-alike (after b c) cs in
     let first = after-alike b c in
     (rest .0 ∙ first .0, rest .1 ∙ first .1)
+
+-- a full bridge stays one, and what Setup took as a listener
+pub full-stays : (s : Setup) (cs : List Call) → s .sender .profile ≡ Full → FullBridge (run (setupOf s .next) cs)
+unfolding setupOf
+full-stays s cs full =
+    ap (λ (x : Setup). x .sender .profile) (run-alike (setupOf s .next) cs .0)
+    ∙ if-when (λ (d : Done). FullBridge (d .next)) (setupFits s) (λ _. full) (λ _. refl)
+
+pub listener-stays : (s : Setup) (cs : List Call) → s .sender .profile ≡ Listener → setupOf s .answer ≡ 0 → Listens (run (setupOf s .next) cs)
+unfolding setupOf
+listener-stays s cs listens done =
+    ap (λ (x : Setup). x .sender .profile) (run-alike (setupOf s .next) cs .0)
+    ∙ if-when (λ (d : Done). d .answer ≡ 0 → Listens (d .next)) (setupFits s) (λ _ _. listens) (λ _ e. absurd (omega (arith, e))) done
 
 -- there are eight records after any calls
 pub eight-records : (s : Setup) (cs : List Call) → length (run (setupOf s .next) cs .ports) ≡ mostPorts

@@ -91,7 +91,7 @@ send-answers b port t out =
     let held = portAt (b .ports) (port - 1) in
     if-both (SendAnswers b port out) (eqb (sendRefusal (b .setup .n) (b .links) port t (length out)) 0)
     (λ _. sending-is (chosenOf b) (chosenSamples b) (b .setup .sender) (record { 0 = t }) held
-    (λ (s : Sending). SendAnswers b port out (storesPort b (port - 1) (sendingDone s held)) (sendingBytes s out)) (λ k l g. inr (inr ((l, g), refl, refl))) (λ _ _ _ _ _ _ _. inl refl))
+    (λ (s : Sending). SendAnswers b port out (storesPort b (port - 1) (sendingDone s held)) (sendingBytes s out)) (λ k _ l g. inr (inr ((l, g), refl, refl))) (λ _ _ _ _ _ _ _ _. inl refl) (λ _. inl refl))
     (λ _. send-is (λ (k : ℕ). SendAnswers b port out (answers k b) out) (b .setup .n) (b .links) port t (length out)
     (inr (inl ((omega arith, omega arith), refl, refl))) (inr (inl ((omega arith, omega arith), refl, refl))) (inr (inl ((omega arith, omega arith), refl, refl))) (inl refl))
 

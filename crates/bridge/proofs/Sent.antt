@@ -19,13 +19,13 @@ use Rattle.frame.specs.Write.{writeRefusal, bytesOf, writtenOf}
 use Rattle.frame.specs.Demands.{Typed}
 use Rattle.frame.specs.declared.Fields.{Fields}
 use Rattle.frame.specs.declared.Reading.the-variants as Readings
-use Rattle.port.specs.Send.{sendingBytes}
+use Rattle.port.specs.Send.{listenerFrame, sendingBytes}
 use Rattle.port.specs.declared.PortDone.{PortDone}
 use Rattle.port.specs.declared.Sending.{Sending}
 use Rattle.port.specs.declared.Sending.the-variants.{Frame}
 use Rattle.bridge.specs.Table.{portAt}
 use Rattle.bridge.specs.Arguments.{portRefusal, sendRefusal}
-use Rattle.bridge.specs.State.{Lawful, storesPort}
+use Rattle.bridge.specs.State.{Lawful, FullBridge, Listens, storesPort}
 use Rattle.bridge.specs.Receive.{receiveFieldsOf, receiveOf}
 use Rattle.bridge.specs.Chosen.{chosenOf}
 use Rattle.bridge.specs.Send.{chosenSamples, sendingAt, sendOf, sendBytes}
@@ -35,7 +35,7 @@ use Rattle.bridge.specs.declared.Done.{Done}
 use Rattle.numbers.proofs.Branches.{if-both}
 use Rattle.frame.proofs.FrameLaws.{filled}
 use Rattle.frame.proofs.Trip.{written-read, hop-byte, count-byte}
-use Rattle.port.proofs.PortLaws.{SentFor, sending-frame, sending-for, sending-written, sending-typed, received-is}
+use Rattle.port.proofs.PortLaws.{SentFor, sending-frame, sending-for, sending-listens, sending-count, sending-written, sending-typed, received-is}
 use Rattle.bridge.proofs.CheckLaws.{Ready, send-ready}
 use Rattle.bridge.proofs.TableLaws.{chosen-lawful}
 use Rattle.bridge.proofs.StateLaws.{receive-read}
@@ -65,27 +65,28 @@ wrote b port t out =
     })
     (λ q z. absurd (eqb-false _ _ q z))
 
--- a frame that a port sends is one for the chosen clock
+-- a frame that a full bridge's port sends is one for the chosen clock
 abbrev pub SentAt : Bridge → ℕ → ℕ → Fields → Type 0
 SentAt b i t f = SentFor (chosenOf b) (chosenSamples b) (b .setup .sender) (record { 0 = t }) (portAt (b .ports) i) f
 
-pub sent-at : (b : Bridge) (i t : ℕ) (f : Fields) → sendingAt (chosenOf b) b i (record { 0 = t }) ≡ Frame f → SentAt b i t f
+pub sent-at : (b : Bridge) (i t : ℕ) (f : Fields) → sendingAt (chosenOf b) b i (record { 0 = t }) ≡ Frame f → FullBridge b → SentAt b i t f
 unfolding sendingAt
-sent-at b i t f e = sending-for (chosenOf b) (chosenSamples b) (b .setup .sender) (record { 0 = t }) (portAt (b .ports) i) f e
+sent-at b i t f e full = sending-for (chosenOf b) (chosenSamples b) (b .setup .sender) (record { 0 = t }) (portAt (b .ports) i) f e full
 
 -- ---- hopCount and frameCount
 
 module _ {b : Bridge} {port t : ℕ} {out left : List ℕ} (w : Wrote b port t out left) where
   -- byte 30 is the port's next frameCount
   pub wrote-count : portAt (b .ports) (port - 1) .count < counts → numberAt left 30 1 ≡ portAt (b .ports) (port - 1) .count
+  unfolding sendingAt
   wrote-count h =
-      let same = ap (λ (f : Fields). f .count) (sent-at b (port - 1) t (w .fields) (w .sending) .same) in
+      let same = sym (sending-count (chosenOf b) (chosenSamples b) (b .setup .sender) (record { 0 = t }) (portAt (b .ports) (port - 1)) (w .fields) (w .sending)) in
       ap (λ (l : List ℕ). numberAt l 30 1) (w .bytes) ∙ count-byte (w .fields) (drop frameLength out) (subst (λ (n : ℕ). n < counts) same h) ∙ sym same
 
-  -- byte 29 is the chosen clock's held hop
-  pub wrote-hop : {p : Precedence} {h n : ℕ} → chosenOf b ≡ Clock p h n → h < 256 → numberAt left 29 1 ≡ h
-  wrote-hop {p} {h} {n} c l =
-      let s = sent-at b (port - 1) t (w .fields) (w .sending) in
+  -- a full bridge's byte 29 is the chosen clock's held hop
+  pub wrote-hop : FullBridge b → {p : Precedence} {h n : ℕ} → chosenOf b ≡ Clock p h n → h < 256 → numberAt left 29 1 ≡ h
+  wrote-hop full {p} {h} {n} c l =
+      let s = sent-at b (port - 1) t (w .fields) (w .sending) full in
       let both : Clock (s .precedence) (s .hop) (s .number) ≡ Clock p h n = sym (s .chosen) ∙ c in
       let held : s .hop ≡ h = cc in
       let same : w .fields .hop ≡ h = sym (ap (λ (f : Fields). f .hop) (s .same)) ∙ held in
@@ -102,9 +103,9 @@ module _ (b : Bridge) (port t : ℕ) (out : List ℕ) (lawful : Lawful b) (sent 
   pub sent-frame-count : numberAt (sendBytes b port t out) 30 1 ≡ portAt (b .ports) (port - 1) .count
   sent-frame-count = wrote-count (wrote b port t out sent) (lawful .ports-lawful (port - 1) .count)
 
-  -- byte 29 is the chosen clock's held hop
-  pub sent-frame-hop : {p : Precedence} {h n : ℕ} → chosenOf b ≡ Clock p h n → numberAt (sendBytes b port t out) 29 1 ≡ h
-  sent-frame-hop c = wrote-hop (wrote b port t out sent) c (subst CandidateFits c (chosen-fits b lawful) .1)
+  -- a full bridge's byte 29 is the chosen clock's held hop
+  pub sent-frame-hop : FullBridge b → {p : Precedence} {h n : ℕ} → chosenOf b ≡ Clock p h n → numberAt (sendBytes b port t out) 29 1 ≡ h
+  sent-frame-hop full c = wrote-hop (wrote b port t out sent) full c (subst CandidateFits c (chosen-fits b lawful) .1)
 
   -- a frame that was sent is one that Write takes
   pub sent-frame-written : (f : Fields) → sendingAt (chosenOf b) b (port - 1) (record { 0 = t }) ≡ Frame f → writeRefusal f (length out) ≡ 0
@@ -133,11 +134,11 @@ module _ (b : Bridge) (port t : ℕ) (out : List ℕ) (lawful : Lawful b) (sent 
       = sym (filled f 0 out (sym z) refl) ∙ ap (λ (g : Fields). bytesOf g (drop frameLength out)) (sym same) ∙ sym (w .bytes) in
       subst (λ (l : List ℕ). readOf (take frameLength l) ≡ Readings.Frame f) bytes (written-read f out (sent-typed f e) z)
 
-  -- WHAT SEND WRITES, READ READS: the first 64 bytes are read as exactly the fields of the rules
-  pub sent-frame-read : SentFields b port t (take frameLength (sendBytes b port t out))
-  sent-frame-read =
+  -- WHAT SEND WRITES, READ READS: the first 64 bytes are read as exactly the fields of the rules, those of a full bridge
+  pub sent-frame-read : FullBridge b → SentFields b port t (take frameLength (sendBytes b port t out))
+  sent-frame-read full =
       let w = wrote b port t out sent in
-      let s = sent-at b (port - 1) t (w .fields) (w .sending) in
+      let s = sent-at b (port - 1) t (w .fields) (w .sending) full in
       record {
         precedence = s .precedence;
         hop = s .hop;
@@ -149,7 +150,15 @@ module _ (b : Bridge) (port t : ℕ) (out : List ℕ) (lawful : Lawful b) (sent 
         read = read-back (w .fields) (w .sending) ∙ ap Readings.Frame (sym (s .same));
       }
 
-  -- and what a neighbour makes of them, at a port with a link and a local time in range, is what Receive makes of the fields that were sent
+  -- and those of a listener
+  pub listener-frame-read : Listens b → readOf (take frameLength (sendBytes b port t out)) ≡ Readings.Frame (listenerFrame (b .setup .sender) (record { 0 = t }) (portAt (b .ports) (port - 1)))
+  unfolding sendingAt
+  listener-frame-read l =
+      let w = wrote b port t out sent in
+      read-back (w .fields) (w .sending)
+      ∙ ap Readings.Frame (sending-listens (chosenOf b) (chosenSamples b) (b .setup .sender) (record { 0 = t }) (portAt (b .ports) (port - 1)) (w .fields) (w .sending) l)
+
+  -- what a neighbour makes of them, at a port with a link and a local time in range, is what Receive makes of the fields that were sent
   pub sent-frame-received : (there : Bridge) (at arrival : ℕ) (f : Fields) → sendingAt (chosenOf b) b (port - 1) (record { 0 = t }) ≡ Frame f
       → portRefusal (there .setup .n) (there .links) at arrival ≡ 0
       → receiveOf there at (take frameLength (sendBytes b port t out)) arrival ≡ receiveFieldsOf (chosenOf there) there (at - 1) f (record { 0 = arrival })

@@ -49,7 +49,7 @@ use Rattle.bridge.specs.declared.Bridge.{Bridge}
 use Rattle.bridge.specs.declared.Done.{Done}
 use Rattle.bridge.specs.declared.LinkCount.the-variants.{Refused, Up}
 use Rattle.numbers.proofs.Branches.{if-true, if-false}
-use Rattle.port.proofs.PortLaws.{empty-lawful, aged-fresh}
+use Rattle.port.proofs.PortLaws.{empty-lawful, aged-fresh, send-unchosen}
 use Rattle.bridge.proofs.TableLaws.{best-number, relinked-beyond}
 use Rattle.bridge.proofs.Keeps.{port-kept}
 use Rattle.bridge.proofs.RankingLaws.{ranking-stored, state-made, stored-made}
@@ -212,12 +212,12 @@ module _ (b : Bridge) (port t : ℕ) (out : List ℕ) (k : ℕ) (e : k ≡ sendR
 -- what a port sends by the chosen clock and the samples of its number: where no clock is chosen the samples do not matter
 pub sending-chosen : (b : Bridge) (i : ℕ) (t : LocalTime) (c : Candidate) (s : Samples) → c ≡ chosenOf b → s ≡ samplesAt (numberOf c) (b .clock) (b .ports)
     → sendingOf c s (b .setup .sender) t (portAt (b .ports) i) ≡ sendingAt (chosenOf b) b i t
-unfolding sendingAt samplesOfChoice sendingOf
+unfolding sendingAt samplesOfChoice
 sending-chosen b i t c s e q = go c s q ∙ ap (λ (x : Candidate). sendingOf x (samplesOfChoice x (b .clock) (b .ports)) (b .setup .sender) t (portAt (b .ports) i)) e
   where
     go : (c : Candidate) (s : Samples) → s ≡ samplesAt (numberOf c) (b .clock) (b .ports)
         → sendingOf c s (b .setup .sender) t (portAt (b .ports) i) ≡ sendingOf c (samplesOfChoice c (b .clock) (b .ports)) (b .setup .sender) t (portAt (b .ports) i)
-    go Candidates.Nothing s q = refl
+    go Candidates.Nothing s q = send-unchosen Candidates.Nothing s (b .setup .sender) t (portAt (b .ports) i) _
     go (Candidates.Clock p h n) s q = ap (λ (x : Samples). sendingOf (Candidates.Clock p h n) x (b .setup .sender) t (portAt (b .ports) i)) q
 
 -- ---- drift

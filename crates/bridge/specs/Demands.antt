@@ -1,10 +1,11 @@
 -- What the theorems on the calls say: which answers there are and what each leaves, the line of demand 3, the drift, the candidates, calls in a row, and hops.
 use mathlib.Core.Path.{_≡_}
-use mathlib.Core.Bool.{cond, not, _&&_}
-use mathlib.Core.List.{List, [], _∷_}
+use mathlib.Core.Bool.{cond, not}
+use mathlib.Core.List.{List, [], _∷_, List·Memᴰ}
 use mathlib.Core.Logic.{_⊎_}
 use Prim.Native.Nat.{ℕ, _+_, _-_, _*_, _<_, _≤_}
 use lib.Dec.{eqb}
+use lib.ListN.{getD}
 use lib.IntN.{pos, natAbs}
 use lib.Signed.{nonNeg}
 use lib.Ieee.{Float}
@@ -26,6 +27,7 @@ use Rattle.timeline.specs.declared.Drift.{Drift}
 use Rattle.timeline.specs.declared.Sent.the-variants.{At}
 use Rattle.choice.specs.Hop.{lastHop}
 use Rattle.choice.specs.Choose.{rankOf, numberOf, shownPort}
+use Rattle.choice.specs.Precedence.{worstPrecedence}
 use Rattle.choice.specs.declared.Precedence.{Precedence}
 use Rattle.choice.specs.declared.Announcement.{Announcement}
 use Rattle.choice.specs.declared.Announcement.the-variants.{Announced}
@@ -38,10 +40,10 @@ use Rattle.frame.specs.declared.Reading.{Reading}
 use Rattle.frame.specs.declared.Reading.the-variants.{Frame}
 use Rattle.port.specs.Record.{usedPort}
 use Rattle.port.specs.Receive.{notedPort}
-use Rattle.port.specs.Send.{frameOf}
+use Rattle.port.specs.Send.{frameOf, listenerHop, noGrandTime, noErrorTime}
 use Rattle.port.specs.declared.Preceding.the-variants.{Was}
-use Rattle.bridge.specs.Table.{portAt, samplesAt, candidatesOf}
-use Rattle.bridge.specs.Arguments.{bit, sendRefusal, maskBeyond}
+use Rattle.bridge.specs.Table.{portAt, losesLink, samplesAt, candidatesOf}
+use Rattle.bridge.specs.Arguments.{sendRefusal, maskBeyond}
 use Rattle.bridge.specs.State.{withPort, withClock, answers}
 use Rattle.bridge.specs.Setup.{noBridge}
 use Rattle.bridge.specs.Links.{linksOf, linkNo}
@@ -100,6 +102,10 @@ SendAnswers b port out d left =
     (d .answer ≡ 0)
     ⊎ ((From 2 4 (d .answer) × (d .next ≡ b) × (left ≡ out))
     ⊎ (From 10 13 (d .answer) × (d .next ≡ withPort b (port - 1) (usedPort (portAt (b .ports) (port - 1)))) × (left ≡ out)))
+
+-- of a listener nothing but 2 to 4
+abbrev pub ListenerAnswers : Bridge → List ℕ → Done → List ℕ → Type 0
+ListenerAnswers b out d left = (d .answer ≡ 0) ⊎ (From 2 4 (d .answer) × (d .next ≡ b) × (left ≡ out))
 
 abbrev pub DriftAnswers : Drift → Type 0
 DriftAnswers x = (driftNo x ≡ 0) ⊎ (driftNo x ≡ 2)
@@ -190,7 +196,7 @@ along step b (c ∷ cs) x = along step (after b c) cs (step b c x)
 -- how many sends of the port at index i used a frameCount since its link came up: none once its link goes down, one more with
 -- each send that is refused by its number alone no more
 abbrev pub usedBy : ℕ → Bridge → Call → ℕ → ℕ
-usedBy i b (links mask) n = cond (maskBeyond (b .setup .n) mask) n (cond (eqb (bit (b .links) i) 1 && eqb (bit mask i) 0) 0 n)
+usedBy i b (links mask) n = cond (maskBeyond (b .setup .n) mask) n (cond (losesLink (b .links) mask i) 0 n)
 usedBy i b (own-clock count byte seconds fraction at) n = n
 usedBy i b (receive port frame bytes arrival) n = n
 usedBy i b (age at) n = n
@@ -199,16 +205,38 @@ usedBy i b (send port t room) n = cond (eqb (sendRefusal (b .setup .n) (b .links
 abbrev pub used : ℕ → Bridge → List Call → ℕ → ℕ
 used i = along (usedBy i)
 
--- the frame that the port at index i took last, and no bytes before the first: a frame is taken where receive answers 0
-abbrev pub takenBy : ℕ → Bridge → Call → List ℕ → List ℕ
-takenBy i b (links mask) last = last
-takenBy i b (own-clock count byte seconds fraction at) last = last
-takenBy i b (receive port frame bytes arrival) last = cond (eqb (receiveOf b port frame arrival .answer) 0) (cond (eqb (port - 1) i) frame last) last
-takenBy i b (age at) last = last
-takenBy i b (send port t room) last = last
+-- the frames that the port at index i took since its link came up, the last one first: a frame is taken where receive answers 0
+abbrev pub takenBy : ℕ → Bridge → Call → List (List ℕ) → List (List ℕ)
+takenBy i b (links mask) frames = cond (maskBeyond (b .setup .n) mask) frames (cond (losesLink (b .links) mask i) [] frames)
+takenBy i b (own-clock count byte seconds fraction at) frames = frames
+takenBy i b (receive port frame bytes arrival) frames = cond (eqb (receiveOf b port frame arrival .answer) 0) (cond (eqb (port - 1) i) (frame ∷ frames) frames) frames
+takenBy i b (age at) frames = frames
+takenBy i b (send port t room) frames = frames
+
+abbrev pub taken : ℕ → Bridge → List Call → List (List ℕ)
+taken i b cs = along (takenBy i) b cs []
+
+-- the last of them, and no bytes before the first
+abbrev pub lastOf : List (List ℕ) → List ℕ
+lastOf frames = getD frames 0 []
 
 abbrev pub lastTaken : ℕ → Bridge → List Call → List ℕ
-lastTaken i b cs = along (takenBy i) b cs []
+lastTaken i b cs = lastOf (taken i b cs)
+
+-- ---- listeners
+
+-- a frame as listeners send them: what Read gives of it has the worst precedence, the hop before the last, and zero for both times
+pub record FromListener (frame : List ℕ) : Type 0 where
+  pub fields : Fields
+  pub read : readOf frame ≡ Frame fields
+  pub precedence : fields .precedence ≡ worstPrecedence
+  pub hop : fields .hop ≡ listenerHop
+  pub grand : fields .grand ≡ noGrandTime
+  pub error : fields .error ≡ noErrorTime
+
+-- every frame that the port at index i took since its link came up is one of them
+abbrev pub HeardListeners : ℕ → Bridge → List Call → Type 0
+HeardListeners i b cs = (frame : List ℕ) → List·Memᴰ frame (taken i b cs) → FromListener frame
 
 -- ---- hops
 

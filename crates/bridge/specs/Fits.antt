@@ -1,8 +1,8 @@
 -- What Setup takes, and the plainest that it can be given.
-use mathlib.Core.Bool.{Bool, true, false, _&&_}
+use mathlib.Core.Bool.{Bool, true, false, not, _&&_}
 use mathlib.Core.List.{List, [], _∷_}
 use Prim.Native.Nat.{ℕ, _^_}
-use lib.Dec.{ltb, leb}
+use lib.Dec.{ltb, leb, eqb}
 use lib.ListN.{take, replicate}
 use Rattle.delay.specs.Delay.{longestDelay}
 use Rattle.timeline.specs.Sent.{longestElapsed}
@@ -10,6 +10,8 @@ use Rattle.delay.specs.declared.DelaySetting.{DelaySetting}
 use Rattle.delay.specs.declared.DelaySetting.the-variants.{Measured, Fixed}
 use Rattle.choice.specs.declared.Precedence.{Precedence}
 use Rattle.frame.specs.declared.Mac.{Mac}
+use Rattle.port.specs.declared.Profile.{Profile}
+use Rattle.port.specs.declared.Profile.the-variants.{Full, Listener}
 use Rattle.port.specs.declared.Setting.{Setting}
 use Rattle.bridge.specs.Table.{mostPorts}
 use Rattle.bridge.specs.declared.Setup.{Setup}
@@ -29,12 +31,25 @@ unfoldable pub delaysFit : List Setting → Bool
 delaysFit [] = true
 delaysFit (s ∷ ss) = delayFits (s .delay) && delaysFit ss
 
+-- a listener has one port, is never capable, and has backTime 0
+abbrev pub listenerPorts : ℕ
+listenerPorts = 1
+
+abbrev pub listenerBack : ℕ
+listenerBack = 0
+
+unfoldable pub profileFits : Profile → ℕ → Bool → ℕ → Bool
+profileFits Full n capable back = true
+profileFits Listener n capable back = eqb n listenerPorts && (not capable && eqb back listenerBack)
+
 -- entries beyond the n ports are not looked at
 unfoldable pub setupFits : Setup → Bool
 setupFits s =
     leb 1 (s .n)
     && (leb (s .n) mostPorts
-    && (leb leastTimeout (s .timeout) && (leb (s .timeout) greatestTimeout && (ltb (s .sender .back) longestElapsed && delaysFit (take (s .n) (s .settings))))))
+    && (leb leastTimeout (s .timeout)
+    && (leb (s .timeout) greatestTimeout
+    && (ltb (s .sender .back) longestElapsed && (profileFits (s .sender .profile) (s .n) (s .capable) (s .sender .back) && delaysFit (take (s .n) (s .settings)))))))
 
 -- a port that measures its delay
 abbrev pub measuredSetting : Setting
@@ -47,11 +62,11 @@ noMac = record { 0 = 0; 1 = 0; 2 = 0; 3 = 0; 4 = 0; 5 = 0 }
 abbrev pub noPrecedence : Precedence
 noPrecedence = record { priority1 = 0; source = 0; variance = 0; priority2 = 0; clock = 0 }
 
--- a station that is not capable, whose ports all measure their delay
+-- a full bridge that is not capable, whose ports all measure their delay
 abbrev pub plainSetup : ℕ → ℕ → ℕ → Setup
 plainSetup n timeout back = record {
   n = n;
-  sender = record { mac = noMac; back = back };
+  sender = record { profile = Full; mac = noMac; back = back };
   own = noPrecedence;
   capable = false;
   timeout = timeout;

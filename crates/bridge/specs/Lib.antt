@@ -18,3 +18,4 @@ pub mod Leaves
 pub mod Demands
 pub mod Board
 pub mod Promises
+pub mod Listener

@@ -4,6 +4,7 @@ use mathlib.Core.List.{List, [], _∷_, _++_}
 use Prim.Native.Nat.{ℕ, _+_, _-_, _^_}
 use Rattle.refusals.specs.Literals.{Literal, literal, tested, numbers}
 use Rattle.delay.specs.declared.DelaySetting.the-variants.{Fixed}
+use Rattle.port.specs.declared.Profile.the-variants.{Full}
 use Rattle.timeline.specs.Drift.{driftNo}
 use Rattle.frame.specs.Literals.{frameLiterals}
 use Rattle.port.specs.Literals.{recordLiterals}
@@ -25,7 +26,7 @@ plain n timeout back = setupOf (plainSetup n timeout back) .answer
 abbrev fixed : ℕ → ℕ
 fixed delay = setupOf (record {
   n = 1;
-  sender = record { mac = noMac; back = 0 };
+  sender = record { profile = Full; mac = noMac; back = 0 };
   own = noPrecedence;
   capable = false;
   timeout = 2 ^ 39;

@@ -1,7 +1,8 @@
 -- When each call on the state refuses: every condition by itself, with its number.
 use mathlib.Core.Path.{_≡_}
-use mathlib.Core.Bool.{false}
+use mathlib.Core.Bool.{Bool, true, false}
 use mathlib.Core.List.{List, [], _∷_, _++_}
+use mathlib.Core.Logic.{_⊎_, _≢_}
 use Prim.Native.Nat.{ℕ, _-_, _^_, _<_, _≤_}
 use lib.ListN.{getD}
 use Rattle.refusals.specs.Order.{Condition, given}
@@ -11,6 +12,8 @@ use Rattle.delay.specs.declared.DelaySetting.{DelaySetting}
 use Rattle.delay.specs.declared.DelaySetting.the-variants.{Measured, Fixed}
 use Rattle.frame.specs.Order.{readConditions}
 use Rattle.port.specs.Order.{frameConditions, readingConditions, departureConditions}
+use Rattle.port.specs.declared.Profile.{Profile}
+use Rattle.port.specs.declared.Profile.the-variants.{Full, Listener}
 use Rattle.port.specs.declared.Setting.{Setting}
 use Rattle.bridge.specs.Arguments.{bit}
 use Rattle.bridge.specs.Table.{portAt}
@@ -35,7 +38,12 @@ Above (Fixed delay) = 2 ^ 30 < delay
 abbrev pub FixedAbove : ℕ → List Setting → Type 0
 FixedAbove n settings = (i : ℕ) × (i < n) × Above (getD settings i measuredSetting .delay)
 
--- ports not 1..8, timeout not 2^36..2^46, backTime above 2^39 - 1, a fixed delay above 2^30
+-- a listener with other than one port, capable, or with a backTime other than 0
+abbrev pub ListenerOtherwise : Profile → ℕ → Bool → ℕ → Type 0
+ListenerOtherwise Full n capable back = ⊥
+ListenerOtherwise Listener n capable back = (n ≢ 1) ⊎ ((capable ≡ true) ⊎ (back ≢ 0))
+
+-- ports not 1..8, timeout not 2^36..2^46, backTime above 2^39 - 1, a listener set up otherwise, a fixed delay above 2^30
 abbrev pub setupConditions : Setup → List Condition
 setupConditions s =
     given 1 (s .n < 1)
@@ -43,6 +51,7 @@ setupConditions s =
     ∷ given 1 (s .timeout < 2 ^ 36)
     ∷ given 1 (2 ^ 46 < s .timeout)
     ∷ given 1 (2 ^ 39 - 1 < s .sender .back)
+    ∷ given 1 (ListenerOtherwise (s .sender .profile) (s .n) (s .capable) (s .sender .back))
     ∷ given 1 (FixedAbove (s .n) (s .settings))
     ∷ []
 
@@ -94,8 +103,8 @@ heardConditions b i frame =
 abbrev pub receiveConditions : Bridge → ℕ → List ℕ → ℕ → List Condition
 receiveConditions b port frame arrival = portConditions (b .setup .n) (b .links) port arrival ++ (readConditions frame ++ heardConditions b (port - 1) frame)
 
--- the port, an output shorter than 64, and then the chosen clock, its samples and the sent grand time
+-- the port, an output shorter than 64, and then, of a full bridge, the chosen clock, its samples and the sent grand time
 abbrev pub sendConditions : Bridge → ℕ → ℕ → ℕ → List Condition
 sendConditions b port t room =
     portConditions (b .setup .n) (b .links) port t
-    ++ (given 4 (room < 64) ∷ departureConditions (chosenOf b) (chosenSamples b) (record { 0 = t }) (b .setup .sender .back))
+    ++ (given 4 (room < 64) ∷ departureConditions (b .setup .sender .profile) (chosenOf b) (chosenSamples b) (record { 0 = t }) (b .setup .sender .back))

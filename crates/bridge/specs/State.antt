@@ -1,6 +1,6 @@
 -- The state: what holds of every state that Setup or a call hands back, and a state with one part changed.
 use mathlib.Core.Path.{_≡_}
-use mathlib.Core.Bool.{true, cond}
+use mathlib.Core.Bool.{true, false, cond}
 use mathlib.Core.List.{List}
 use Prim.Native.Nat.{ℕ, _^_, _<_, _≤_}
 use lib.Dec.{eqb}
@@ -9,12 +9,13 @@ use Rattle.refusals.specs.Refusals.{done}
 use Rattle.timeline.specs.Sent.{longestElapsed}
 use Rattle.choice.specs.Rank.{PrecedenceFits}
 use Rattle.port.specs.Lawful.{LawfulPort, LawfulClock, LawfulMac}
+use Rattle.port.specs.declared.Profile.the-variants.{Full, Listener}
 use Rattle.port.specs.declared.Port.{Port}
 use Rattle.port.specs.declared.OwnClock.{OwnClock}
 use Rattle.port.specs.declared.PortDone.{PortDone}
 use Rattle.port.specs.declared.ClockDone.{ClockDone}
 use Rattle.bridge.specs.Table.{portAt, mostPorts}
-use Rattle.bridge.specs.Fits.{greatestTimeout, delaysFit}
+use Rattle.bridge.specs.Fits.{greatestTimeout, delaysFit, listenerPorts, listenerBack}
 use Rattle.bridge.specs.Ranking.{keptRanking}
 use Rattle.bridge.specs.declared.Setup.{Setup}
 use Rattle.bridge.specs.declared.Bridge.{Bridge}
@@ -28,12 +29,19 @@ pub record TypedSetup (s : Setup) : Type 0 where
   pub address : LawfulMac (s .sender .mac)
   pub own-fits : PrecedenceFits (s .own)
 
+-- what a listener is, in every state
+pub record ListenerSetup (s : Setup) : Type 0 where
+  pub one-port : s .n ≡ listenerPorts
+  pub not-capable : s .capable ≡ false
+  pub no-back : s .sender .back ≡ listenerBack
+
 -- a setup in a state: one that Setup took, or that of no ports
 pub record LawfulSetup (s : Setup) : Type 0 where
   pub typed : TypedSetup s
   pub ports-most : s .n ≤ mostPorts
   pub timeout-most : s .timeout ≤ greatestTimeout
   pub back-small : s .sender .back < longestElapsed
+  pub listener-fits : s .sender .profile ≡ Listener → ListenerSetup s
   pub delays-fit : delaysFit (take (s .n) (s .settings)) ≡ true
 
 -- what holds of every number in a state that Setup or a call hands back; and the ranking that it keeps is the one made afresh from its table
@@ -44,6 +52,13 @@ pub record Lawful (b : Bridge) : Type 0 where
   pub clock-lawful : LawfulClock (b .clock)
   pub records : length (b .ports) ≡ mostPorts
   pub ports-lawful : (i : ℕ) → LawfulPort (portAt (b .ports) i)
+
+-- a full bridge's state, and a listener's
+abbrev pub FullBridge : Bridge → Type 0
+FullBridge b = b .setup .sender .profile ≡ Full
+
+abbrev pub Listens : Bridge → Type 0
+Listens b = b .setup .sender .profile ≡ Listener
 
 -- a state by its parts, its ranking made afresh: every state that is made, or whose records change, is made here
 abbrev pub stateOf : Setup → ℕ → OwnClock → List Port → Bridge

@@ -5,10 +5,11 @@ ghost use lib.Dec.{leb};
 ghost use lib.ListN.{take};
 ghost use Rattle.times.specs.Times.{circle};
 ghost use Rattle.bridge.specs.Arguments.{hasLink, portRefusal, sendRefusal, ownClockRefusal, maskBeyond};
-ghost use Rattle.bridge.specs.Fits.{delayFits, delaysFit, setupFits};
+ghost use Rattle.bridge.specs.Fits.{delayFits, delaysFit, profileFits, setupFits};
 use bridge::Setup;
 use delay::DelaySetting;
 use frame::layout;
+use port::Profile;
 use port::Setting;
 use times::grand;
 use times::local;
@@ -23,6 +24,11 @@ const LEAST_TIMEOUT: u64 = 0x10_0000_0000;
 const GREATEST_TIMEOUT: u64 = 0x4000_0000_0000;
 
 const BACK_END: u64 = 0x80_0000_0000;
+
+// What a listener has.
+const LISTENER_PORTS: u8 = 1;
+
+const LISTENER_BACK: u64 = 0;
 
 // Whether a local time is out of its range.
 pub fn off_circle(at: u64) -> bool
@@ -130,6 +136,24 @@ fn delays_fit(n: u8, settings: [Setting; 8]) -> bool
     true
 }
 
+// Whether a station of this profile may have so many ports, a clock of its own, and this backTime.
+fn profile_fits(profile: Profile, n: u8, capable: bool, back: u64) -> bool
+    ensures { λ r. ⌜ r ≡ profileFits profile n capable back ⌝ }
+{
+    match profile {
+        Profile::Full => true,
+        Profile::Listener => {
+            if n != LISTENER_PORTS {
+                return false;
+            }
+            if capable {
+                return false;
+            }
+            back == LISTENER_BACK
+        }
+    }
+}
+
 // Whether Setup takes this.
 pub fn setup_fits(s: Setup) -> bool
     ensures { λ r. ⌜ r ≡ setupFits s ⌝ }
@@ -147,6 +171,11 @@ pub fn setup_fits(s: Setup) -> bool
         return false;
     }
     if BACK_END <= s.sender.back {
+        return false;
+    }
+    let sender = s.sender;
+    let profile = sender.profile;
+    if !profile_fits(profile, s.n, s.capable, sender.back) {
         return false;
     }
     let settings = s.settings;

@@ -9,11 +9,12 @@ use bridge::Setup;
 use choice::Precedence;
 use delay::DelaySetting;
 use frame::Mac;
+use port::Profile;
 use port::Sender;
 use port::Setting;
 use port::record;
 
-// The setup of a station that is not capable and whose n ports all measure their delay, with zeros for address and precedence.
+// The setup of a full bridge that is not capable and whose n ports all measure their delay, with zeros for address and precedence.
 pub fn plain_setup(n: u8, timeout: u64, back: u64) -> Setup
     ensures { λ r. ⌜ r ≡ plainSetup n timeout back ⌝ }
 {
@@ -23,6 +24,7 @@ pub fn plain_setup(n: u8, timeout: u64, back: u64) -> Setup
     Setup {
         n: n,
         sender: Sender {
+            profile: Profile::Full,
             mac: Mac(0, 0, 0, 0, 0, 0),
             back: back,
         },

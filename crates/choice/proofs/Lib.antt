@@ -3,6 +3,7 @@ pub mod PermutationLaws
 pub mod BetterLaws
 pub mod CompareLaws
 pub mod RankLaws
+pub mod WorstLaws
 pub mod HopLaws
 pub mod ShownLaws
 pub mod LeastLaws

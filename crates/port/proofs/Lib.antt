@@ -3,3 +3,4 @@ pub mod Leaves
 pub mod Literals
 pub mod Order
 pub mod Edges
+pub mod ListenerLaws

@@ -33,9 +33,11 @@ use Rattle.choice.specs.declared.Candidate.the-variants.{Nothing, Clock}
 use Rattle.frame.specs.declared.Fields.{Fields}
 use Rattle.port.specs.Own.{ownReadingBy, ownReadingOf}
 use Rattle.port.specs.Receive.{delayedBy, followedBy, countedBy, receivedOf}
-use Rattle.port.specs.Send.{sendingBy, sendingOf, sendingNo}
+use Rattle.port.specs.Send.{sendingBy, clockSending, profileSending, sendingOf, sendingNo}
 use Rattle.port.specs.Order.{NotNext, TooLong, MeasuredTooLong, DelayTooLong, frameConditions, readingConditions, TooLate, BeyondEnd, departureConditions}
 use Rattle.port.specs.declared.Setting.{Setting}
+use Rattle.port.specs.declared.Profile.{Profile}
+use Rattle.port.specs.declared.Profile.the-variants.{Full, Listener}
 use Rattle.port.specs.declared.Sender.{Sender}
 use Rattle.port.specs.declared.Preceding.{Preceding}
 use Rattle.port.specs.declared.Preceding.the-variants.{Never, Was}
@@ -138,11 +140,20 @@ sending-number Few sender p h t port = refl
 sending-number Late sender p h t port = refl
 sending-number Beyond sender p h t port = refl
 
--- 10, then these
-pub departure-order : (choice : Candidate) (samples : Samples) (sender : Sender) (t : LocalTime) (port : Port) → LawfulSamples samples → sender .back < longestElapsed
-    → First (sendingNo (sendingOf choice samples sender t port)) (departureConditions choice samples t (sender .back))
-unfolding sendingOf
-departure-order Nothing samples sender t port w l = here _ _ refl refl
-departure-order (Clock p h n) samples sender t port w l =
+-- from a full bridge 10, then these
+clock-order : (choice : Candidate) (samples : Samples) (sender : Sender) (t : LocalTime) (port : Port) → LawfulSamples samples → sender .back < longestElapsed
+    → First (sendingNo (clockSending choice samples sender t port)) (departureConditions Full choice samples t (sender .back))
+clock-order Nothing samples sender t port w l = here _ _ refl refl
+clock-order (Clock p h n) samples sender t port w l =
     later _ _ (λ (e : Clock p h n ≡ Nothing). let z : _≡_ {A = ℕ} 0 1 = cc in omega arith)
     (same-number (sending-number (sentOf samples t (sender .back)) sender p h t port) (sent-order samples t (sender .back) w l))
+
+-- from a listener none of them
+pub departure-order : (choice : Candidate) (samples : Samples) (sender : Sender) (t : LocalTime) (port : Port) → LawfulSamples samples → sender .back < longestElapsed
+    → First (sendingNo (sendingOf choice samples sender t port)) (departureConditions (sender .profile) choice samples t (sender .back))
+unfolding sendingOf
+departure-order choice samples sender t port w l = by (sender .profile)
+  where
+    by : (profile : Profile) → First (sendingNo (profileSending profile choice samples sender t port)) (departureConditions profile choice samples t (sender .back))
+    by Full = clock-order choice samples sender t port w l
+    by Listener = nowhere refl

@@ -25,6 +25,7 @@ use Rattle.timeline.specs.declared.Sent.the-variants.{At, Few, Late, Beyond}
 use Rattle.timeline.specs.Sent.{sentOf}
 use Rattle.delay.specs.declared.Delay.{Delay}
 use Rattle.delay.specs.declared.Delay.the-variants.{Is, TooLong}
+use Rattle.choice.specs.Precedence.{worstPrecedence}
 use Rattle.choice.specs.Rank.{PrecedenceFits, CandidateFits}
 use Rattle.choice.specs.declared.Precedence.{Precedence}
 use Rattle.choice.specs.declared.Announcement.the-variants.{Announced}
@@ -40,8 +41,10 @@ use Rattle.port.specs.Record.{silenced, tooOld, agedPort, emptyPort, use
 use Rattle.port.specs.Lawful.{LawfulPreceding, LawfulAnnouncement, LawfulPair, LawfulPort, LawfulClock, LawfulMac, FieldsInRange}
 use Rattle.port.specs.Own.{storedAs, ownSample, ownReadingBy, ownReadingOf}
 use Rattle.port.specs.Receive.{sampleOf, sameClock, takenPort, refusedBy, delayedBy, followedBy, countedBy, receivedOf}
-use Rattle.port.specs.Send.{echoTx, echoRx, frameOf, sendingBy, sendingOf, sendingNo, sendingDone}
+use Rattle.port.specs.Send.{echoTx, echoRx, frameOf, sendingBy, clockSending, listenerHop, noGrandTime, noErrorTime, listenerFrame, profileSending, sendingOf, sendingNo, sendingDone}
 use Rattle.port.specs.declared.Setting.{Setting}
+use Rattle.port.specs.declared.Profile.{Profile}
+use Rattle.port.specs.declared.Profile.the-variants.{Full, Listener}
 use Rattle.port.specs.declared.Sender.{Sender}
 use Rattle.port.specs.declared.Sending.{Sending}
 use Rattle.port.specs.declared.Sending.the-variants.{Refused, Frame}
@@ -57,6 +60,7 @@ use Rattle.times.proofs.TimeLaws.{since-lt}
 use Rattle.samples.proofs.KeepLaws.{kept-lawful, ends-lawful}
 use Rattle.timeline.proofs.SentLaws.{Departure, departure}
 use Rattle.choice.proofs.HopLaws.{hop-within}
+use Rattle.choice.proofs.WorstLaws.{worst-fits}
 use Rattle.frame.proofs.FrameLaws.{accepted, reading, unrefused}
 
 -- ---- record
@@ -166,35 +170,54 @@ own-reading-is count grand at clock P refuse take = go (clock .preceding) refl
 -- ---- sending
 
 module _ (choice : Candidate) (samples : Samples) (sender : Sender) (t : LocalTime) (port : Port) where
-  pub send-none : choice ≡ Nothing → Refused 10 ≡ sendingOf choice samples sender t port
-  unfolding sendingOf
-  send-none e = ap (λ (x : Candidate). sendingOf x samples sender t port) (sym e)
+  -- a full bridge's, by the choice
+  pub send-none : choice ≡ Nothing → Refused 10 ≡ clockSending choice samples sender t port
+  send-none e = ap (λ (x : Candidate). clockSending x samples sender t port) (sym e)
 
   pub send-by : {p : Precedence} {h n : ℕ} {s : Sent} → choice ≡ Clock p h n → s ≡ sentOf samples t (sender .back)
-      → sendingBy s sender p h t port ≡ sendingOf choice samples sender t port
-  unfolding sendingOf
+      → sendingBy s sender p h t port ≡ clockSending choice samples sender t port
   send-by {p} {h} {n} e g =
-      ap (λ (x : Sent). sendingBy x sender p h t port) g ∙ ap (λ (x : Candidate). sendingOf x samples sender t port) (sym e)
+      ap (λ (x : Sent). sendingBy x sender p h t port) g ∙ ap (λ (x : Candidate). clockSending x samples sender t port) (sym e)
 
-  -- what holds of a refusal with 10 to 13, and of a frame for the chosen clock, holds of what is sent
-  pub sending-is : (P : Sending → Type 0) → ((k : ℕ) → 10 ≤ k → k ≤ 13 → P (Refused k))
-      → ((p : Precedence) (h n : ℕ) (g : GrandTime) (x : ErrorTime) → choice ≡ Clock p h n → sentOf samples t (sender .back) ≡ At g x
+  -- by the profile
+  pub send-as : (profile : Profile) → sender .profile ≡ profile → profileSending profile choice samples sender t port ≡ sendingOf choice samples sender t port
+  unfolding sendingOf
+  send-as profile e = ap (λ (x : Profile). profileSending x choice samples sender t port) (sym e)
+
+  -- where no clock is chosen the samples do not matter
+  pub send-unchosen : (others : Samples) → sendingOf Nothing samples sender t port ≡ sendingOf Nothing others sender t port
+  unfolding sendingOf
+  send-unchosen others = of (sender .profile)
+    where
+      of : (profile : Profile) → profileSending profile Nothing samples sender t port ≡ profileSending profile Nothing others sender t port
+      of Full = refl
+      of Listener = refl
+
+  -- what holds of a full bridge's refusal with 10 to 13, of its frame for the chosen clock, and of a listener's frame, holds of what is sent
+  pub sending-is : (P : Sending → Type 0) → ((k : ℕ) → sender .profile ≡ Full → 10 ≤ k → k ≤ 13 → P (Refused k))
+      → ((p : Precedence) (h n : ℕ) (g : GrandTime) (x : ErrorTime) → sender .profile ≡ Full → choice ≡ Clock p h n → sentOf samples t (sender .back) ≡ At g x
       → P (Frame (frameOf sender p h t g x port)))
+      → (sender .profile ≡ Listener → P (Frame (listenerFrame sender t port)))
       → P (sendingOf choice samples sender t port)
   unfolding sendingOf
-  sending-is P refuse send = chosen choice refl
+  sending-is P refuse send listen = of (sender .profile) refl
     where
-      by : (s : Sent) → sentOf samples t (sender .back) ≡ s → (p : Precedence) (h n : ℕ) → choice ≡ Clock p h n → P (sendingBy s sender p h t port)
-      by (At g x) q p h n e = send p h n g x e q
-      by Few q p h n e = refuse 11 (omega arith) (omega arith)
-      by Late q p h n e = refuse 12 (omega arith) (omega arith)
-      by Beyond q p h n e = refuse 13 (omega arith) (omega arith)
+      by : (s : Sent) → sentOf samples t (sender .back) ≡ s → sender .profile ≡ Full → (p : Precedence) (h n : ℕ) → choice ≡ Clock p h n
+          → P (sendingBy s sender p h t port)
+      by (At g x) q f p h n e = send p h n g x f e q
+      by Few q f p h n e = refuse 11 f (omega arith) (omega arith)
+      by Late q f p h n e = refuse 12 f (omega arith) (omega arith)
+      by Beyond q f p h n e = refuse 13 f (omega arith) (omega arith)
 
-      chosen : (c : Candidate) → choice ≡ c → P (sendingOf c samples sender t port)
-      chosen Nothing e = refuse 10 (omega arith) (omega arith)
-      chosen (Clock p h n) e = by (sentOf samples t (sender .back)) refl p h n e
+      chosen : (c : Candidate) → choice ≡ c → sender .profile ≡ Full → P (clockSending c samples sender t port)
+      chosen Nothing e f = refuse 10 f (omega arith) (omega arith)
+      chosen (Clock p h n) e f = by (sentOf samples t (sender .back)) refl f p h n e
 
--- a frame that is sent is one for the chosen clock: its fields are those of `frameOf`, with what was read off the clock's samples
+      of : (profile : Profile) → sender .profile ≡ profile → P (profileSending profile choice samples sender t port)
+      of Full f = chosen choice refl f
+      of Listener l = listen l
+
+-- a frame that a full bridge sends is one for the chosen clock: its fields are those of `frameOf`, with what was read off the clock's samples
 pub record SentFor (choice : Candidate) (samples : Samples) (sender : Sender) (t : LocalTime) (port : Port) (f : Fields) : Type 0 where
   pub precedence : Precedence
   pub hop : ℕ
@@ -209,65 +232,96 @@ pub record SentFor (choice : Candidate) (samples : Samples) (sender : Sender) (t
 abbrev pub ReadOff : Samples → LocalTime → ℕ → Fields → Type 0
 ReadOff samples t back f = Departure samples t back (f .grand) (f .error)
 
+-- of every frame, whatever it says of a clock
+module _ (sender : Sender) (t : LocalTime) (port : Port) (precedence : Precedence) (hop : ℕ) (grand : GrandTime) (error : ErrorTime) (lawful : LawfulPort port) where
+  -- its times are in range, so Write takes it
+  frame-written : InRange grand → t .0 < circle → (room : ℕ) → frameLength ≤ room → writeRefusal (frameOf sender precedence hop t grand error port) room ≡ 0
+  frame-written w ht room r =
+      let m = echo-small (port .echo) (lawful .echo) in
+      unrefused (frameOf sender precedence hop t grand error port) room (record { seconds = w .seconds; fraction = w .fraction; local = ht; tx = m .0; rx = m .1; room = r })
+    where
+      echo-small : (s : Pair) → LawfulPair s → (echoTx s .0 < circle) × (echoRx s .0 < circle)
+      echo-small Unset q = (omega arith, omega arith)
+      echo-small (Set a b) q = q
+
+  -- each of its other fields has its bits
+  frame-typed : LawfulMac (sender .mac) → PrecedenceFits precedence → hop < 2 ^ 8 → error .0 < 2 ^ 32 → Typed (frameOf sender precedence hop t grand error port)
+  frame-typed mac p h e = record {
+    sa0 = mac .byte0;
+    sa1 = mac .byte1;
+    sa2 = mac .byte2;
+    sa3 = mac .byte3;
+    sa4 = mac .byte4;
+    sa5 = mac .byte5;
+    priority1 = p .priority1;
+    source = p .source;
+    variance = p .variance;
+    priority2 = p .priority2;
+    clock = p .clock;
+    hop = h;
+    count = lawful .count;
+    error = e;
+  }
+
 module _ (choice : Candidate) (samples : Samples) (sender : Sender) (t : LocalTime) (port : Port) where
   -- where the answer is 0 there is a frame
   pub sending-frame : sendingNo (sendingOf choice samples sender t port) ≡ 0 → (f : Fields) × (sendingOf choice samples sender t port ≡ Frame f)
   sending-frame =
       sending-is choice samples sender t port (λ (s : Sending). sendingNo s ≡ 0 → (f : Fields) × (s ≡ Frame f))
-      (λ k l _ e. absurd (omega arith))
-      (λ p h n g x _ _ _. (frameOf sender p h t g x port, refl))
+      (λ k _ l _ e. absurd (omega arith))
+      (λ p h n g x _ _ _ _. (frameOf sender p h t g x port, refl))
+      (λ _ _. (listenerFrame sender t port, refl))
 
   module _ (f : Fields) (framed : sendingOf choice samples sender t port ≡ Frame f) where
-    pub sending-for : SentFor choice samples sender t port f
-    sending-for =
-        sending-is choice samples sender t port (λ (s : Sending). s ≡ Frame f → SentFor choice samples sender t port f)
-        (λ k _ _ e. let z : _≡_ {A = ℕ} 0 1 = cc in absurd (omega arith))
-        (λ p h n g x c q e. record { precedence = p; hop = h; number = n; grand = g; error = x; chosen = c; sent = q; same = cc })
+    -- what holds of a full bridge's frame for the chosen clock, and of a listener's, holds of a frame that is sent
+    sending-framed : (P : Fields → Type 0)
+        → ((p : Precedence) (h n : ℕ) (g : GrandTime) (x : ErrorTime) → sender .profile ≡ Full → choice ≡ Clock p h n → sentOf samples t (sender .back) ≡ At g x
+        → P (frameOf sender p h t g x port))
+        → (sender .profile ≡ Listener → P (listenerFrame sender t port)) → P f
+    sending-framed P send listen =
+        sending-is choice samples sender t port (λ (s : Sending). s ≡ Frame f → P f)
+        (λ k _ _ _ e. let z : _≡_ {A = ℕ} 0 1 = cc in absurd (omega arith))
+        (λ p h n g x u c q e. let same : frameOf sender p h t g x port ≡ f = cc in subst P same (send p h n g x u c q))
+        (λ l e. let same : listenerFrame sender t port ≡ f = cc in subst P same (listen l))
         framed
 
-    -- its grand time and errorTime are read off the samples
-    pub sending-read-off : ReadOff samples t (sender .back) f
-    sending-read-off = let s = sending-for in subst (ReadOff samples t (sender .back)) (s .same) (departure samples t (sender .back) (s .grand) (s .error) (s .sent))
+    -- a full bridge's is one for the chosen clock
+    pub sending-for : sender .profile ≡ Full → SentFor choice samples sender t port f
+    sending-for full =
+        sending-framed (SentFor choice samples sender t port)
+        (λ p h n g x _ c q. record { precedence = p; hop = h; number = n; grand = g; error = x; chosen = c; sent = q; same = refl })
+        (λ l. let both = sym full ∙ l in let z : _≡_ {A = ℕ} 0 1 = cc in absurd (omega arith))
 
-    -- its times are in range, so Write takes it
+    -- its grand time and errorTime are read off the samples
+    pub sending-read-off : sender .profile ≡ Full → ReadOff samples t (sender .back) f
+    sending-read-off full = let s = sending-for full in subst (ReadOff samples t (sender .back)) (s .same) (departure samples t (sender .back) (s .grand) (s .error) (s .sent))
+
+    -- a listener's is the one that it always sends
+    pub sending-listens : sender .profile ≡ Listener → f ≡ listenerFrame sender t port
+    sending-listens l =
+        sending-framed (λ (g : Fields). g ≡ listenerFrame sender t port)
+        (λ _ _ _ _ _ full _ _. let both = sym full ∙ l in let z : _≡_ {A = ℕ} 0 1 = cc in absurd (omega arith))
+        (λ _. refl)
+
+    -- of either, its frameCount is the port's next, Write takes it, and each field has its bits
+    pub sending-count : f .count ≡ port .count
+    sending-count = sending-framed (λ (g : Fields). g .count ≡ port .count) (λ _ _ _ _ _ _ _ _. refl) (λ _. refl)
+
     pub sending-written : (room : ℕ) → t .0 < circle → LawfulPort port → frameLength ≤ room → writeRefusal f room ≡ 0
     sending-written room ht l r =
-        let s = sending-for in
-        let m = echo-small (port .echo) (l .echo) in
-        let w = departure samples t (sender .back) (s .grand) (s .error) (s .sent) .range in
-        subst (λ (f : Fields). writeRefusal f room ≡ 0) (s .same)
-        (unrefused (frameOf sender (s .precedence) (s .hop) t (s .grand) (s .error) port) room
-        (record { seconds = w .seconds; fraction = w .fraction; local = ht; tx = m .0; rx = m .1; room = r }))
-      where
-        echo-small : (s : Pair) → LawfulPair s → (echoTx s .0 < circle) × (echoRx s .0 < circle)
-        echo-small Unset q = (omega arith, omega arith)
-        echo-small (Set a b) q = q
+        sending-framed (λ (f : Fields). writeRefusal f room ≡ 0)
+        (λ p h n g x _ _ q. frame-written sender t port p h g x l (departure samples t (sender .back) g x q .range) ht room r)
+        (λ _. frame-written sender t port worstPrecedence listenerHop noGrandTime noErrorTime l (record { seconds = lit< tt; fraction = lit< tt }) ht room r)
 
-    -- each of its other fields has its bits
     pub sending-typed : LawfulMac (sender .mac) → CandidateFits choice → LawfulSamples samples → LawfulPort port → Typed f
     sending-typed mac fits w l =
-        let s = sending-for in
-        let c = subst CandidateFits (s .chosen) fits in
-        let p = c .0 in
-        let r = departure samples t (sender .back) (s .grand) (s .error) (s .sent) in
-        let error : s .error .0 < 2 ^ 32 = subst (λ (x : ErrorTime). x .0 < 2 ^ 32) (sym (r .fault)) (ends-lawful samples (r .oldest) (r .newest) w (r .kept) .newest .error) in
-        subst Typed (s .same)
-        (record {
-          sa0 = mac .byte0;
-          sa1 = mac .byte1;
-          sa2 = mac .byte2;
-          sa3 = mac .byte3;
-          sa4 = mac .byte4;
-          sa5 = mac .byte5;
-          priority1 = p .priority1;
-          source = p .source;
-          variance = p .variance;
-          priority2 = p .priority2;
-          clock = p .clock;
-          hop = c .1;
-          count = l .count;
-          error = error;
-        })
+        sending-framed Typed
+        (λ p h n g x _ c q.
+        let v = subst CandidateFits c fits in
+        let r = departure samples t (sender .back) g x q in
+        let error : x .0 < 2 ^ 32 = subst (λ (x : ErrorTime). x .0 < 2 ^ 32) (sym (r .fault)) (ends-lawful samples (r .oldest) (r .newest) w (r .kept) .newest .error) in
+        frame-typed sender t port p h g x l mac (v .0) (v .1) error)
+        (λ _. frame-typed sender t port worstPrecedence listenerHop noGrandTime noErrorTime l mac worst-fits (lit< tt) (lit< tt))
 
 -- ---- the fields of a frame that was read
 

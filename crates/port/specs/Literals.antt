@@ -27,6 +27,7 @@ use Rattle.port.specs.Own.{ownReadingOf}
 use Rattle.port.specs.Receive.{notedPort, receivedOf}
 use Rattle.port.specs.Send.{sendingOf, sendingNo}
 use Rattle.port.specs.Edges.{local, sample}
+use Rattle.port.specs.declared.Profile.the-variants.{Full}
 use Rattle.port.specs.declared.Port.{Port}
 
 -- an address and a precedence of zeros
@@ -141,7 +142,7 @@ sends =
     -- the first frameCount is 0
     ∷ literal (emptyPort .count) 0
     -- no clock chosen; fewer than two samples
-    ∷ literal (sendingNo (sendingOf Nothing Empty (record { mac = address; back = 0 }) (local 0) emptyPort)) 10
+    ∷ literal (sendingNo (sendingOf Nothing Empty (record { profile = Full; mac = address; back = 0 }) (local 0) emptyPort)) 10
     ∷ literal (sentNo (sentOf Empty (local 0) 0)) 11
     ∷ literal (sentNo (sentOf (One (sample 0 0)) (local 0) 0)) 11
     -- departure minus newer sample below 2^39, sent grand time below 2^80

@@ -20,6 +20,8 @@ use Rattle.delay.specs.declared.DelaySetting.the-variants.{Measured, Fixed}
 use Rattle.timeline.specs.Sent.{sentTime}
 use Rattle.choice.specs.declared.Candidate.{Candidate}
 use Rattle.choice.specs.declared.Candidate.the-variants.{Nothing}
+use Rattle.port.specs.declared.Profile.{Profile}
+use Rattle.port.specs.declared.Profile.the-variants.{Full, Listener}
 use Rattle.port.specs.declared.Preceding.{Preceding}
 use Rattle.port.specs.declared.Preceding.the-variants.{Never, Was}
 
@@ -68,9 +70,10 @@ abbrev pub BeyondEnd : Ends → LocalTime → ℕ → Type 0
 BeyondEnd Few t back = ⊥
 BeyondEnd (Both a b) t back = 2 ^ 80 ≤ atLeastZero (sentTime a b (sinceOf t (b .local)) back)
 
--- a departure at t, by the chosen clock and its samples
-abbrev pub departureConditions : Candidate → Samples → LocalTime → ℕ → List Condition
-departureConditions chosen samples t back =
+-- a departure at t: from a full bridge, by the chosen clock and its samples; from a listener there is nothing to refuse
+abbrev pub departureConditions : Profile → Candidate → Samples → LocalTime → ℕ → List Condition
+departureConditions Listener chosen samples t back = []
+departureConditions Full chosen samples t back =
     given 10 (chosen ≡ Nothing)
     ∷ given 11 (howMany samples < 2)
     ∷ given 12 (TooLate (endsOf samples) t)

@@ -1,4 +1,4 @@
--- Send, on one record: the frame for the chosen clock, or why there is none.
+-- Send, on one record: a full bridge's frame for the chosen clock, or why there is none; a listener's frame.
 use Prim.Native.Nat.{ℕ}
 use mathlib.Core.List.{List}
 use lib.ListN.{drop}
@@ -12,6 +12,7 @@ use Rattle.samples.specs.declared.Pair.the-variants.{Unset, Set}
 use Rattle.timeline.specs.Sent.{sentOf, sentNo}
 use Rattle.timeline.specs.declared.Sent.{Sent}
 use Rattle.timeline.specs.declared.Sent.the-variants.{At, Few, Late, Beyond}
+use Rattle.choice.specs.Precedence.{worstPrecedence}
 use Rattle.choice.specs.declared.Precedence.{Precedence}
 use Rattle.choice.specs.declared.Candidate.{Candidate}
 use Rattle.choice.specs.declared.Candidate.the-variants.{Nothing, Clock}
@@ -19,6 +20,8 @@ use Rattle.frame.specs.Frame.{frameLength}
 use Rattle.frame.specs.Write.{bytesOf}
 use Rattle.frame.specs.declared.Fields.{Fields}
 use Rattle.port.specs.Record.{usedPort}
+use Rattle.port.specs.declared.Profile.{Profile}
+use Rattle.port.specs.declared.Profile.the-variants.{Full, Listener}
 use Rattle.port.specs.declared.Sender.{Sender}
 use Rattle.port.specs.declared.Port.{Port}
 use Rattle.port.specs.declared.PortDone.{PortDone}
@@ -34,7 +37,7 @@ abbrev pub echoRx : Pair → LocalTime
 echoRx Unset = record { 0 = 0 }
 echoRx (Set local p) = p
 
--- the fields of a frame for a clock with this precedence and held hop
+-- the fields of every frame: this precedence, hopCount, grand time and errorTime; the station's address, the record's frameCount, t, and the record's echo
 abbrev pub frameOf : Sender → Precedence → ℕ → LocalTime → GrandTime → ErrorTime → Port → Fields
 frameOf sender precedence hop t grand error port = record {
   sa = sender .mac;
@@ -55,10 +58,31 @@ sendingBy Few sender precedence hop t port = Refused (sentNo Few)
 sendingBy Late sender precedence hop t port = Refused (sentNo Late)
 sendingBy Beyond sender precedence hop t port = Refused (sentNo Beyond)
 
--- 10 where no clock is chosen; else by the samples of the chosen clock
+-- a full bridge: 10 where no clock is chosen; else by the samples of the chosen clock
+abbrev pub clockSending : Candidate → Samples → Sender → LocalTime → Port → Sending
+clockSending Nothing samples sender t port = Refused noClock
+clockSending (Clock precedence hop number) samples sender t port = sendingBy (sentOf samples t (sender .back)) sender precedence hop t port
+
+-- a listener's frame, whatever is chosen: the worst precedence, the hop before the last, and zero for both times
+abbrev pub listenerHop : ℕ
+listenerHop = 254
+
+abbrev pub noGrandTime : GrandTime
+noGrandTime = record { 0 = 0; 1 = 0 }
+
+abbrev pub noErrorTime : ErrorTime
+noErrorTime = record { 0 = 0 }
+
+abbrev pub listenerFrame : Sender → LocalTime → Port → Fields
+listenerFrame sender t port = frameOf sender worstPrecedence listenerHop t noGrandTime noErrorTime port
+
+-- by the profile
+abbrev pub profileSending : Profile → Candidate → Samples → Sender → LocalTime → Port → Sending
+profileSending Full choice samples sender t port = clockSending choice samples sender t port
+profileSending Listener choice samples sender t port = Frame (listenerFrame sender t port)
+
 unfoldable pub sendingOf : Candidate → Samples → Sender → LocalTime → Port → Sending
-sendingOf Nothing samples sender t port = Refused noClock
-sendingOf (Clock precedence hop number) samples sender t port = sendingBy (sentOf samples t (sender .back)) sender precedence hop t port
+sendingOf choice samples sender t port = profileSending (sender .profile) choice samples sender t port
 
 -- the answer's number
 abbrev pub sendingNo : Sending → ℕ

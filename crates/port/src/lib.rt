@@ -36,8 +36,15 @@ pub struct Setting {
     pub delay: DelaySetting,
 }
 
-// What a station puts into every frame that it sends: its address, and the backTime by which grand time is read.
+// What a station is: a bridge that passes the chosen clock on, or a listener, whose frames are for the neighbour's measuring of the cable alone.
+pub enum Profile {
+    Full,
+    Listener,
+}
+
+// What a station puts into every frame that it sends: by its profile, with its address, and the backTime by which grand time is read.
 pub struct Sender {
+    pub profile: Profile,
     pub mac: Mac,
     pub back: u64,
 }

@@ -1,16 +1,18 @@
-// The frame that a port sends for the chosen clock.
+// The frame that a port sends: a full bridge's for the chosen clock, or a listener's.
 ghost use mathlib.Core.Path.{_≡_};
 ghost use Prim.Native.Nat.{_<_, _≤_};
 ghost use lib.ListN.{length};
 ghost use Rattle.samples.specs.Keep.{LawfulSamples};
 ghost use Rattle.timeline.specs.Sent.{longestElapsed};
 ghost use Rattle.frame.specs.Frame.{frameLength};
-ghost use Rattle.port.specs.Send.{echoTx, echoRx, frameOf, sendingOf, sendingDone, sendingBytes};
+ghost use Rattle.choice.specs.Precedence.{worstPrecedence};
+ghost use Rattle.port.specs.Send.{echoTx, echoRx, frameOf, clockSending, listenerFrame, sendingOf, sendingDone, sendingBytes};
 use choice::Candidate;
 use choice::Precedence;
 use frame::Fields;
 use port::Port;
 use port::PortDone;
+use port::Profile;
 use port::Sender;
 use port::Sending;
 use samples::Pair;
@@ -21,6 +23,9 @@ use times::ErrorTime;
 use times::GrandTime;
 use times::LocalTime;
 use times::local;
+
+// The hopCount of a listener's frames.
+const LISTENER_HOP: u8 = 254;
 
 // The neighbour's time in an echo, 0 where there is none.
 fn echo_tx(echo: Pair) -> LocalTime
@@ -42,7 +47,7 @@ fn echo_rx(echo: Pair) -> LocalTime
     }
 }
 
-// The fields of a frame for a clock with this precedence and held hop.
+// The fields of every frame, whatever it says of a clock.
 fn fields(
     sender: Sender,
     precedence: Precedence,
@@ -69,8 +74,8 @@ fn fields(
     }
 }
 
-// The frame that the port sends at t, read off the chosen clock's samples, or 10 to 13.
-fn composed(
+// A full bridge's frame at t, read off the chosen clock's samples, or 10 to 13.
+fn for_clock(
     choice: Candidate,
     samples: Samples,
     sender: Sender,
@@ -79,7 +84,7 @@ fn composed(
 ) -> Sending
     requires { ⌜ LawfulSamples samples ⌝ }
     requires { ⌜ sender .back < longestElapsed ⌝ }
-    ensures { λ r. ⌜ r ≡ sendingOf choice samples sender t port ⌝ }
+    ensures { λ r. ⌜ r ≡ clockSending choice samples sender t port ⌝ }
 {
     match choice {
         Candidate::Nothing => Sending::Refused(refusals::NO_CLOCK),
@@ -94,7 +99,55 @@ fn composed(
     }
 }
 
-// Sends at t for the chosen clock: the frame fills the output, or the answer is 10 to 13; either way the next frameCount is used up.
+// The worst precedence: thirteen bytes FF.
+fn worst_precedence() -> Precedence
+    ensures { λ r. ⌜ r ≡ worstPrecedence ⌝ }
+{
+    Precedence {
+        priority1: u8::MAX,
+        source: u8::MAX,
+        variance: u16::MAX,
+        priority2: u8::MAX,
+        clock: u64::MAX,
+    }
+}
+
+// A listener's frame at t.
+fn for_neighbour(sender: Sender, t: LocalTime, port: Port) -> Fields
+    ensures { λ r. ⌜ r ≡ listenerFrame sender t port ⌝ }
+{
+    let precedence = worst_precedence();
+    fields(
+        sender,
+        precedence,
+        LISTENER_HOP,
+        t,
+        GrandTime(0, 0),
+        ErrorTime(0),
+        port,
+    )
+}
+
+// The frame that the port sends at t by the station's profile, or 10 to 13.
+fn composed(
+    choice: Candidate,
+    samples: Samples,
+    sender: Sender,
+    t: LocalTime,
+    port: Port,
+) -> Sending
+    requires { ⌜ LawfulSamples samples ⌝ }
+    requires { ⌜ sender .back < longestElapsed ⌝ }
+    ensures { λ r. ⌜ r ≡ sendingOf choice samples sender t port ⌝ }
+{
+    let profile = sender.profile;
+    match profile {
+        Profile::Full => for_clock(choice, samples, sender, t, port),
+        Profile::Listener => Sending::Frame(for_neighbour(sender, t, port)),
+    }
+}
+
+// Sends at t: the frame fills the output, or the answer is 10 to 13; either way the next frameCount is used up.
 pub fn send(
     port: Port,
     choice: Candidate,

@@ -24,7 +24,7 @@ use Rattle.answer.specs.Answer.{Answer, says, refusedLine}
 use Rattle.forms.specs.Form.{noForm}
 use Rattle.forms.specs.Value.{byteIn}
 use Rattle.forms.specs.declared.Form.{Form}
-use Rattle.replay_grammar.specs.Row.{letterS, letterL, letterO, letterR, letterA, letterC, letterT, letterK}
+use Rattle.replay_grammar.specs.Row.{letterS, letterP, letterL, letterO, letterR, letterA, letterC, letterT, letterK}
 use Rattle.replay_grammar.specs.Line.{asksBy, longestLine, mayBeLine, letterOf, formIn, formFor, asks}
 use Rattle.replay_grammar.proofs.LineLaws.{form-some, asks-letter}
 use Rattle.replay_calls.specs.Answer.{chosenText, IsNumber, askedText, callOf, answerOf}
@@ -78,7 +78,7 @@ asks-other false rest x y f e = f e
 pub call-asks : (letter : ℕ) (b : Bridge) (f : Form) → asksBy letter ≡ true → callOf letter b f ≡ says b (askedText letter b f)
 unfolding callOf asksBy
 call-asks letter b f =
-    asks-other (eqb letter letterS) _ _ _ (asks-other (eqb letter letterL) _ _ _ (asks-other (eqb letter letterO) _ _ _ (asks-other (eqb letter letterR) _ _ _ (asks-other (eqb letter letterA) _ _ _ (asks-other (eqb letter letterT) _ _ _ (λ e. refl))))))
+    asks-other (eqb letter letterS) _ _ _ (asks-other (eqb letter letterP) _ _ _ (asks-other (eqb letter letterL) _ _ _ (asks-other (eqb letter letterO) _ _ _ (asks-other (eqb letter letterR) _ _ _ (asks-other (eqb letter letterA) _ _ _ (asks-other (eqb letter letterT) _ _ _ (λ e. refl)))))))
 
 -- what a form is answered with: where it is good, the letter's call
 abbrev answerWith : Bridge → List ℕ → Form → Answer

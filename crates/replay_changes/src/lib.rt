@@ -21,13 +21,14 @@ use bridge::Bridge;
 use bridge::LinkCount;
 use forms::Form;
 use forms::value;
+use port::Profile;
 
-// `S n mac prec capable timeout back d1 .. d8`.
-pub fn setup(form: Form, out: &mut [u8]) -> Answered
+// `S n mac prec capable timeout back d1 .. d8`; `P` with the same fields for a listener.
+pub fn setup(profile: Profile, form: Form, out: &mut [u8]) -> Answered
     requires { ⌜ longestAnswer ≤ length (now out) ⌝ }
-    ensures { λ r. ⌜ Says (doneSays (setupOf (setupIn form))) r (now (out .entry)) (now (out .exit)) ⌝ }
+    ensures { λ r. ⌜ Says (doneSays (setupOf (setupIn profile form))) r (now (out .entry)) (now (out .exit)) ⌝ }
 {
-    answer::done(bridge_setup::setup(replay_setup::given(form)), out)
+    answer::done(bridge_setup::setup(replay_setup::given(profile, form)), out)
 }
 
 // Prints what Links answers.

@@ -11,15 +11,15 @@ use Rattle.numbers.proofs.Branches.{if-false, if-when}
 use Rattle.forms.specs.Form.{bufferBytes, noForm}
 use Rattle.forms.proofs.FormTheorem.{form-bytes}
 use Rattle.forms.specs.declared.Form.{Form}
-use Rattle.replay_grammar.specs.Row.{letterS, letterL, letterO, letterR, letterA, letterT}
+use Rattle.replay_grammar.specs.Row.{letterS, letterP, letterL, letterO, letterR, letterA, letterT}
 use Rattle.replay_grammar.specs.Line.{mayBeLine, letterOf, formIn, formFor, asksBy, asks}
 
 -- of the letters that do not ask, T is the last
-pub last-letter : (letter : ℕ) → (letter ≡ letterS → ⊥) → (letter ≡ letterL → ⊥) → (letter ≡ letterO → ⊥) → (letter ≡ letterR → ⊥) → (letter ≡ letterA → ⊥)
+pub last-letter : (letter : ℕ) → (letter ≡ letterS → ⊥) → (letter ≡ letterP → ⊥) → (letter ≡ letterL → ⊥) → (letter ≡ letterO → ⊥) → (letter ≡ letterR → ⊥) → (letter ≡ letterA → ⊥)
     → asksBy letter ≡ false → letter ≡ letterT
 unfolding asksBy
-last-letter letter s l o r a e =
-    by (eqb letter letterT) refl (rw (ne-eqb letter letterS s, ne-eqb letter letterL l, ne-eqb letter letterO o, ne-eqb letter letterR r, ne-eqb letter letterA a) at e)
+last-letter letter s p l o r a e =
+    by (eqb letter letterT) refl (rw (ne-eqb letter letterS s, ne-eqb letter letterP p, ne-eqb letter letterL l, ne-eqb letter letterO o, ne-eqb letter letterR r, ne-eqb letter letterA a) at e)
   where
     by : (t : Bool) → eqb letter letterT ≡ t → cond t false true ≡ false → letter ≡ letterT
     by true k n = eqb-true letter letterT k

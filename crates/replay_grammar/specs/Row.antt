@@ -11,6 +11,9 @@ use Rattle.forms.specs.Form.{row}
 abbrev pub letterS : ℕ
 letterS = 83
 
+abbrev pub letterP : ℕ
+letterP = 80
+
 abbrev pub letterL : ℕ
 letterL = 76
 
@@ -90,10 +93,15 @@ plainRow letter =
     (cond (eqb letter letterN) (row (NUMBER ∷ LEAP ∷ []))
     (row []))))))))
 
+-- of Setup, whatever the profile
+abbrev pub setupRow : List ℕ
+setupRow = row (BYTE ∷ ADDRESS ∷ PRECEDENCE ∷ FLAG ∷ NUMBER-OR-DEFAULT ∷ NUMBER-OR-DEFAULT ∷ replicate 8 DELAY-OR-MEASURED)
+
 -- the row of each letter
 unfoldable pub rowOf : ℕ → List ℕ
 rowOf letter =
-    cond (eqb letter letterS) (row (BYTE ∷ ADDRESS ∷ PRECEDENCE ∷ FLAG ∷ NUMBER-OR-DEFAULT ∷ NUMBER-OR-DEFAULT ∷ replicate 8 DELAY-OR-MEASURED))
+    cond (eqb letter letterS) setupRow
+    (cond (eqb letter letterP) setupRow
     (cond (eqb letter letterL) (row (BYTE ∷ []))
     (cond (eqb letter letterO) (row (BYTE ∷ NUMBER ∷ NUMBER ∷ NUMBER ∷ []))
     (cond (eqb letter letterR) (row (BYTE ∷ NUMBER ∷ BYTES ∷ []))
@@ -102,4 +110,4 @@ rowOf letter =
     (cond (eqb letter letterD) (row (BYTE ∷ []))
     (cond (eqb letter letterE) (row (NUMBER ∷ []))
     (cond (eqb letter letterK) (row (BYTE ∷ []))
-    (plainRow letter)))))))))
+    (plainRow letter))))))))))

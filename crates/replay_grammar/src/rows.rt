@@ -1,6 +1,6 @@
 // The kinds of the fields that follow each letter.
 ghost use mathlib.Core.Path.{_≡_};
-ghost use Rattle.replay_grammar.specs.Row.{plainRow, rowOf};
+ghost use Rattle.replay_grammar.specs.Row.{plainRow, setupRow, rowOf};
 use forms::kind;
 use forms::kind::BYTE;
 use forms::kind::BYTES;
@@ -59,30 +59,38 @@ fn plain_row(letter: u8) -> [u8; 17]
     }
 }
 
+// The row of Setup, whatever the profile.
+fn setup_row() -> [u8; 17]
+    ensures { λ r. ⌜ r ≡ setupRow ⌝ }
+{
+    [
+        BYTE,
+        ADDRESS,
+        PRECEDENCE,
+        FLAG,
+        OR_DEFAULT,
+        OR_DEFAULT,
+        DELAY,
+        DELAY,
+        DELAY,
+        DELAY,
+        DELAY,
+        DELAY,
+        DELAY,
+        DELAY,
+        END,
+        END,
+        END,
+    ]
+}
+
 // The row of a letter: those of calls on a bridge, and then those of plain lines.
 pub fn row(letter: u8) -> [u8; 17]
     ensures { λ r. ⌜ r ≡ rowOf letter ⌝ }
 {
     match letter {
-        b'S' => [
-            BYTE,
-            ADDRESS,
-            PRECEDENCE,
-            FLAG,
-            OR_DEFAULT,
-            OR_DEFAULT,
-            DELAY,
-            DELAY,
-            DELAY,
-            DELAY,
-            DELAY,
-            DELAY,
-            DELAY,
-            DELAY,
-            END,
-            END,
-            END,
-        ],
+        b'S' => setup_row(),
+        b'P' => setup_row(),
         b'L' => kind::row(BYTE, END, END, END),
         b'O' => kind::row(BYTE, NUMBER, NUMBER, NUMBER),
         b'R' => kind::row(BYTE, NUMBER, BYTES, END),

@@ -3,6 +3,7 @@ use Prim.Native.Nat.{ℕ}
 use mathlib.Core.Bool.{cond}
 use mathlib.Core.List.{List, [], _∷_}
 use Rattle.delay.specs.declared.DelaySetting.the-variants.{Measured, Fixed}
+use Rattle.port.specs.declared.Profile.{Profile}
 use Rattle.port.specs.declared.Setting.{Setting}
 use Rattle.bridge.specs.Setup.{defaultTimeout, defaultBack}
 use Rattle.bridge.specs.declared.Setup.{Setup}
@@ -19,11 +20,11 @@ unfoldable pub settingsIn : Form → List Setting
 settingsIn f =
     settingIn f 6 ∷ settingIn f 7 ∷ settingIn f 8 ∷ settingIn f 9 ∷ settingIn f 10 ∷ settingIn f 11 ∷ settingIn f 12 ∷ settingIn f 13 ∷ []
 
--- what Setup is given
-unfoldable pub setupIn : Form → Setup
-setupIn f = record {
+-- what Setup is given, for a station of this profile
+unfoldable pub setupIn : Profile → Form → Setup
+setupIn profile f = record {
   n = byteIn f 0;
-  sender = record { mac = macFrom (f .bytes); back = numberOr defaultBack f 5 };
+  sender = record { profile = profile; mac = macFrom (f .bytes); back = numberOr defaultBack f 5 };
   own = precedenceFrom (f .bytes);
   capable = flagIn f 3;
   timeout = numberOr defaultTimeout f 4;

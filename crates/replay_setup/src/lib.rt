@@ -7,6 +7,7 @@ use bridge::Setup;
 use delay::DelaySetting;
 use forms::Form;
 use forms::value;
+use port::Profile;
 use port::Sender;
 use port::Setting;
 
@@ -44,14 +45,15 @@ fn settings(form: Form) -> [Setting; 8]
     ]
 }
 
-// What Setup is given.
-pub fn given(form: Form) -> Setup
-    ensures { λ r. ⌜ r ≡ setupIn form ⌝ }
+// What Setup is given, for a station of this profile.
+pub fn given(profile: Profile, form: Form) -> Setup
+    ensures { λ r. ⌜ r ≡ setupIn profile form ⌝ }
 {
     let bytes = form.bytes;
     Setup {
         n: value::byte(form, 0),
         sender: Sender {
+            profile: profile,
             mac: replay_frames::mac(bytes),
             back: value::number_or(form, 5, bridge::default_back()),
         },

@@ -1,5 +1,5 @@
 -- Laws of the samples that are kept: where the limits hold grand time rose, and what is kept is lawful.
-use mathlib.Core.Path.{_≡_, refl, ap}
+use mathlib.Core.Path.{_≡_, refl, sym, ap, _∙_}
 use mathlib.Core.Bool.{Bool, true, false}
 use Prim.Native.Nat.{ℕ, _+_, _%_, _<_, _≤_}
 use native.Mathlib.Omega.{arith}
@@ -8,7 +8,7 @@ use lib.IntN.{pos, natAbs, subℕ, _-ℤ_}
 use mir.Syntax.{w32}
 use mir.Val.{ofZ}
 use mir.ValLaws.{ofZ-toZ}
-use Rattle.times.specs.Times.{circle, second, sinceOf, errorOf}
+use Rattle.times.specs.Times.{circle, second, sinceOf, units, errorOf}
 use Rattle.samples.specs.Rate.{Limits, steepest}
 use Rattle.samples.specs.Keep.{spreadOf, riseOf, gainedOf, gainBetween, rateBetween, keptBy, keptOf, howMany, endsOf, LawfulSample, LawfulEnds, LawfulSamples}
 use Rattle.samples.specs.declared.Sample.{Sample}
@@ -18,10 +18,10 @@ use Rattle.samples.specs.declared.Ends.the-variants.{Few, Both}
 use Rattle.samples.specs.declared.Gain.{Gain}
 use Rattle.samples.specs.declared.Gain.the-variants.{Within, Outside}
 use Rattle.numbers.proofs.Ring.{minus-is, neg-pos, sub-+, sub-ge, sub-ge2}
-use Rattle.samples.proofs.RateLaws.{within-gain, rate-small}
+use Rattle.samples.proofs.RateLaws.{gain-outside, within-gain, rate-small}
 
 -- where the limits hold, grand time rose, and by less than a second
-pub limits-rise : (a b s : ℕ) → Limits (pos b -ℤ pos a -ℤ pos s) s → (a ≤ b) × (b < a + second)
+pub limits-rise : (a b s : ℕ) → Limits (pos b -ℤ pos a -ℤ pos s) s → (a < b) × (b < a + second)
 limits-rise a b s k =
     let e : pos b -ℤ pos a -ℤ pos s ≡ subℕ (b + 0) (a + s) = rw (minus-is b a, neg-pos s, sub-+ b a 0 s) in
     omega (arith, k .near, k .low, k .high, ap natAbs e, sub-ge (b + 0) (a + s), sub-ge2 (b + 0) (a + s))
@@ -73,6 +73,34 @@ kept-lawful old false new h k = k
 kept-lawful Empty true new h k = k
 kept-lawful (One a) true new h k = kept-by-lawful (gainBetween a new) a new refl h k
 kept-lawful (Two z a) true new h k = kept-by-lawful (gainBetween a new) a new refl (h .newest) k
+
+-- ---- a clock that stands still
+
+-- what is kept of a clock that always showed the grand time g: none, or one sample alone
+abbrev pub Still : ℕ → Samples → Type 0
+Still g Empty = Unit {0}
+Still g (One a) = units (a .grand) ≡ g
+Still g (Two a b) = ⊥
+
+-- two samples with the same grand time are never kept together
+pub level-alone : (a new : Sample) → units (a .grand) ≡ units (new .grand) → keptBy (gainBetween a new) a new ≡ One new
+level-alone a new level =
+    ap (λ (gain : Gain). keptBy gain a new)
+    (sym (gain-outside (riseOf a new) (spreadOf a new) (λ k. omega (arith, level, limits-rise (units (a .grand)) (units (new .grand)) (spreadOf a new) k .0))))
+
+-- so one sample stands alone, whatever was held
+pub still-kept : (g : ℕ) (old : Samples) (same : Bool) (new : Sample) → Still g old → units (new .grand) ≡ g → Still g (keptOf old same new)
+unfolding keptOf
+still-kept g old false new h e = e
+still-kept g Empty true new h e = e
+still-kept g (One a) true new h e = rw (level-alone a new (h ∙ sym e)) e
+still-kept g (Two z a) true new h e = absurd h
+
+-- and there is no line
+pub still-few : (g : ℕ) (samples : Samples) → Still g samples → howMany samples < 2
+still-few g Empty h = lit< tt
+still-few g (One a) h = lit< tt
+still-few g (Two a b) h = absurd h
 
 -- ---- the numbers of a lawful sample
 

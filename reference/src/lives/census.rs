@@ -1,7 +1,8 @@
-//! Counts how often each call gave each answer, how the frames that were taken came by their held hops, which way rates were rounded, what places of the ranking showed, and where scales left their range.
+//! Counts how often each call gave each answer, how the frames that were taken came by their held hops, which way rates were rounded, what places of the ranking showed, what listeners did and how they were heard, and where scales left their range.
 
 use super::latches;
 use super::limits;
+use super::listener_census::ListenerCensus;
 use super::pen::answer_of;
 use crate::answer::{
     Answer, BAD_DELAY, BAD_LINE, BEYOND_RANGE, DONE, NO_CLOCK, OUT_OF_RANGE, OUT_OF_REACH, TOO_FAR,
@@ -18,9 +19,9 @@ use std::cmp::Ordering;
 use std::fmt;
 
 /// The letters of the calls whose answers are numbers, but for stamps, timestamps and scales, which are counted by themselves.
-const LETTERS: [u8; 9] = *b"SLORATDFW";
+const LETTERS: [u8; 10] = *b"SPLORATDFW";
 /// How many answers there are.
-const ANSWERS: usize = BAD_LINE as usize + 1;
+pub(super) const ANSWERS: usize = BAD_LINE as usize + 1;
 
 /// Where a latch lies: nowhere as long as there are no two samples, else by the newer one.
 const SIDES: [&str; 4] = ["nowhere", "before", "at", "after"];
@@ -315,7 +316,7 @@ impl RankingCensus {
     fn event_of(&self, line: &[u8], reply: &[u8], after: &[Chosen], links: usize) -> Option<usize> {
         let changed = self.ranking != after;
         match line.first()? {
-            b'S' if reply != b"0E" => Some(SET_UP),
+            b'S' | b'P' if reply != b"0E" => Some(SET_UP),
             b'L' if changed => Some(LOST),
             b'L' if links > self.links => Some(LINKED),
             b'A' if changed => Some(AGED),
@@ -483,7 +484,12 @@ impl fmt::Display for TimestampCensus {
 }
 
 /// Prints a row of counts, each after its name.
-fn put_counts(out: &mut fmt::Formatter, row: &str, names: &[&str], counts: &[u64]) -> fmt::Result {
+pub(super) fn put_counts(
+    out: &mut fmt::Formatter,
+    row: &str,
+    names: &[&str],
+    counts: &[u64],
+) -> fmt::Result {
     write!(out, "{row}")?;
     for (name, count) in names.iter().zip(counts) {
         write!(out, ", {name} {count}")?;
@@ -492,7 +498,11 @@ fn put_counts(out: &mut fmt::Formatter, row: &str, names: &[&str], counts: &[u64
 }
 
 /// Prints a row of numbers.
-fn put_row<T: fmt::Display>(out: &mut fmt::Formatter, name: &str, row: &[T]) -> fmt::Result {
+pub(super) fn put_row<T: fmt::Display>(
+    out: &mut fmt::Formatter,
+    name: &str,
+    row: &[T],
+) -> fmt::Result {
     write!(out, "{name:<9}")?;
     for number in row {
         write!(out, " {number:>8}")?;
@@ -516,6 +526,7 @@ pub struct Census {
     hops: HopCensus,
     rates: RateCensus,
     ranking: RankingCensus,
+    listeners: ListenerCensus,
     timestamps: TimestampCensus,
 }
 
@@ -526,6 +537,7 @@ impl Census {
         self.hops.count(line, reply, bridge);
         self.rates.count(line, reply, bridge);
         self.ranking.count(line, reply, bridge);
+        self.listeners.count(line, reply, bridge);
         self.timestamps.count(line, reply);
         if reply == b"0E" {
             self.bad += 1;
@@ -570,6 +582,7 @@ impl Census {
             && self.hops.missing().is_empty()
             && self.rates.missing().is_empty()
             && self.ranking.missing().is_empty()
+            && self.listeners.missing().is_empty()
             && self.timestamps.missing().is_empty()
             && self.stamps.counts[NOWHERE][usize::from(OUT_OF_RANGE)] > 0
     }
@@ -599,6 +612,7 @@ impl fmt::Display for Census {
         writeln!(out, "B    part {}, none {}", self.parts, self.no_parts)?;
         writeln!(out, "D    readings {}", self.readings)?;
         write!(out, "{}{}{}", self.hops, self.rates, self.ranking)?;
+        write!(out, "{}", self.listeners)?;
         writeln!(out, "no call (14) {}", self.bad)?;
         writeln!(out, "lines {}", self.lines)?;
         writeln!(out, "answers missing {:?}", self.missing())

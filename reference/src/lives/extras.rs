@@ -10,7 +10,7 @@ use super::spoil;
 use super::timestamps;
 use crate::frame::{self, Fields, FRAME_LEN};
 use crate::replay::BYTES_MOST;
-use crate::rules::{self, REACH_END};
+use crate::rules::{self, HOP_NONE, REACH_END};
 use crate::times::{moved, GRAND_END, LOCAL_END, PART_END};
 
 /// Gives the length of an output, mostly that of a frame.
@@ -59,6 +59,37 @@ fn ask_drift(pen: &mut Pen) {
         _ => any_port(pen),
     };
     pen.drift(port);
+}
+
+/// Has a frame arrive, or now and then be lost, come too far, be spoiled, come twice, or come with another port or arrival.
+pub fn arrive(pen: &mut Pen, port: u8, mut fields: Fields, arrival: u64) {
+    let chance = pen.random.below(1000);
+    if (15..20).contains(&chance) {
+        fields.hop = HOP_NONE;
+    }
+    let whole = frame::put_together(&fields);
+    match chance {
+        0..=14 => {}
+        20..=29 => {
+            let spoiled = spoil::frame(&mut pen.random, &whole);
+            pen.receive(port, &spoiled, arrival);
+        }
+        30..=35 => {
+            pen.receive(port, &whole, arrival);
+            pen.receive(port, &whole, arrival);
+        }
+        36..=37 => {
+            let wrong = any_port(pen);
+            pen.receive(wrong, &whole, arrival);
+        }
+        38..=39 => {
+            let wrong = any_local(&mut pen.random);
+            pen.receive(port, &whole, wrong);
+        }
+        _ => {
+            pen.receive(port, &whole, arrival);
+        }
+    }
 }
 
 /// Sends with a departure at a limit of the chosen clock's reach or of grand time.

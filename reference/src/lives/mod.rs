@@ -2,10 +2,13 @@
 
 mod aimed;
 pub mod census;
+mod clocks;
 mod extras;
 pub(crate) mod latches;
 pub(crate) mod limits;
 pub mod listed;
+pub mod listener_census;
+mod listeners;
 mod network;
 mod panel;
 mod pen;
@@ -22,11 +25,13 @@ use random::Random;
 use std::io;
 
 /// Of a hundred lives, how many are of a network of drifting neighbours.
-const NETWORK_SHARE: u64 = 52;
+const NETWORK_SHARE: u64 = 36;
 /// Of a hundred lives, how many are of frames aimed at the limits.
-const AIMED_SHARE: u64 = 23;
+const AIMED_SHARE: u64 = 17;
 /// Of a hundred lives, how many are of clocks that stand close to one another.
-const RIVALS_SHARE: u64 = 16;
+const RIVALS_SHARE: u64 = 17;
+/// Of a hundred lives, how many are at cables with a listener.
+const LISTENERS_SHARE: u64 = 22;
 
 /// A taker of each line, its answer and the bridge after it.
 pub type Sink<'s> = &'s mut dyn FnMut(&[u8], &[u8], &Listed) -> io::Result<()>;
@@ -43,6 +48,8 @@ pub fn lives(lines: u64, seed: u64, sink: Sink) -> io::Result<()> {
             aimed::live(&mut pen);
         } else if kind < NETWORK_SHARE + AIMED_SHARE + RIVALS_SHARE {
             rivals::live(&mut pen);
+        } else if kind < NETWORK_SHARE + AIMED_SHARE + RIVALS_SHARE + LISTENERS_SHARE {
+            listeners::live(&mut pen);
         } else {
             extras::wander(&mut pen);
         }

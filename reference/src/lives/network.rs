@@ -1,55 +1,21 @@
 //! Lives among neighbours whose clocks drift and who answer what the bridge really sent.
 
+use super::clocks::{self, Clock};
 use super::extras;
 use super::limits;
 use super::panel;
 use super::pen::Pen;
 use super::plans;
 use super::random::Random;
-use super::spoil;
 use super::timestamps;
 use crate::answer::{BEYOND_RANGE, DONE, NO_CLOCK};
 use crate::bridge::Plan;
-use crate::frame::{self, Fields};
+use crate::frame::Fields;
 use crate::port::Heard;
-use crate::times::{next_count, parts, GRAND_END, LOCAL_END, PART_END};
-
-/// What a drift of one whole is counted as.
-const DRIFT_ONE: i128 = 1 << 40;
-/// A drift of 100 parts per million.
-const DRIFT_USUAL: u64 = 110_000_000;
-/// A drift of 300 parts per million.
-const DRIFT_WILD: u64 = 330_000_000;
-/// Ten milliseconds.
-const TICK_USUAL: u64 = 10_995_116_278;
-/// The share of a tick in which things that happen together may lie apart.
-const TICK_PART: u64 = 8;
+use crate::times::{next_count, parts, LOCAL_END, PART_END};
 
 /// How long a neighbour mostly keeps its echo, a quarter of a second.
 const ECHO_KEPT: i128 = 1 << 38;
-
-/// A clock that starts somewhere and drifts.
-struct Clock {
-    start: i128,
-    drift: i128,
-}
-
-impl Clock {
-    /// Gives the clock's reading at a true time.
-    fn at(&self, time: i128) -> i128 {
-        self.start + time + (time * self.drift).div_euclid(DRIFT_ONE)
-    }
-
-    /// Gives the reading as a local time.
-    fn local(&self, time: i128) -> u64 {
-        self.at(time).rem_euclid(i128::from(LOCAL_END)) as u64
-    }
-
-    /// Gives the reading as a grand time.
-    fn grand(&self, time: i128) -> u128 {
-        self.at(time).rem_euclid(GRAND_END as i128) as u128
-    }
-}
 
 /// A grand master somewhere behind the neighbours.
 struct Master {
@@ -161,45 +127,17 @@ pub fn live(pen: &mut Pen) {
     }
 }
 
-/// Gives where a local clock starts, often shortly before it wraps.
-fn local_start(random: &mut Random, tick: u64) -> i128 {
-    let before_end = random.below(100 * tick.min(1 << 38)) % LOCAL_END;
-    if random.often(400) {
-        i128::from(LOCAL_END - 1 - before_end)
-    } else {
-        i128::from(random.below(LOCAL_END))
-    }
-}
-
-/// Gives where a grand clock starts, often shortly after zero or before its end.
-fn grand_start(random: &mut Random, tick: u64) -> i128 {
-    let some = i128::from(random.within(0, 60)) * i128::from(tick) + i128::from(random.below(tick));
-    match random.below(10) {
-        0 => i128::from(random.below(1000)),
-        1 => some,
-        2 | 3 => GRAND_END as i128 - 1 - some,
-        _ => (i128::from(random.bits()) << 15) + some,
-    }
-}
-
 impl Network {
     /// Makes the neighbours for a plan.
     fn around(random: &mut Random, plan: &Plan) -> Network {
-        let tick = match random.below(12) {
-            0 => (1 << 30) + random.below(1 << 28),
-            1 => 1 << 33,
-            2 => 1 << 36,
-            3 if random.often(300) => 1 << 38,
-            4 if random.often(300) => (1 << 39) - (1 << 34),
-            _ => TICK_USUAL,
-        };
+        let tick = clocks::tick(random);
         let wild = random.often(80);
         let masters = (0..3).map(|_| master(random, tick, wild)).collect();
         let mut network = Network {
             time: 0,
             tick,
             wild,
-            clock: drifting(random, wild, |random| local_start(random, tick)),
+            clock: Clock::of_local(random, tick, wild),
             masters,
             neighbours: Vec::new(),
             own_before: 0,
@@ -215,20 +153,14 @@ impl Network {
 
     /// Makes a neighbour.
     fn neighbour(&self, random: &mut Random, fixed: Option<u64>) -> Neighbour {
-        let tick = self.tick;
-        let most = tick / TICK_PART;
-        let measured = match random.below(20) {
-            0 => random.within((1 << 30) - 4, (1 << 30) + 4).min(most),
-            1 => random.below(most),
-            _ => random.sized(26).min(most),
-        };
+        let measured = clocks::cable(random, self.tick);
         let noise = match random.below(6) {
-            0 => tick / 20_000,
+            0 => self.tick / 20_000,
             1 | 2 => 100,
             _ => 0,
         };
         Neighbour {
-            clock: drifting(random, self.wild, |random| local_start(random, tick)),
+            clock: Clock::of_local(random, self.tick, self.wild),
             link: i128::from(fixed.unwrap_or(measured)),
             noise,
             master: random.below(self.masters.len() as u64) as usize,
@@ -246,8 +178,7 @@ impl Network {
 
     /// Lets one tick pass.
     fn step(&mut self, pen: &mut Pen) {
-        let wobble = pen.random.about(self.tick / 16);
-        self.time += i128::from(self.tick) + if pen.random.often(300) { wobble } else { 0 };
+        self.time += clocks::next_tick(&mut pen.random, self.tick);
         for place in 0..self.neighbours.len() {
             if self.neighbours[place].silent > 0 {
                 self.neighbours[place].silent -= 1;
@@ -268,46 +199,16 @@ impl Network {
 
     /// Gives a time within the tick, a given part of it after its start.
     fn soon(&self, random: &mut Random, parts: u64) -> i128 {
-        let part = self.tick / TICK_PART;
-        self.time + i128::from(parts * part) + i128::from(random.below(part) / 4)
+        self.time + clocks::within_tick(random, self.tick, parts)
     }
 
     /// Lets a neighbour's frame leave and mostly arrive.
     fn arrive(&mut self, pen: &mut Pen, place: usize) {
         let now = self.soon(&mut pen.random, 0);
         let neighbour = &mut self.neighbours[place];
-        let mut fields = neighbour.frame(&mut pen.random, now, &self.masters);
+        let fields = neighbour.frame(&mut pen.random, now, &self.masters);
         let arrival = self.clock.local(now + neighbour.link);
-        let port = (place + 1) as u8;
-        let chance = pen.random.below(1000);
-        if chance < 15 {
-            return;
-        }
-        if (15..20).contains(&chance) {
-            fields.hop = 255;
-        }
-        let whole = frame::put_together(&fields);
-        match chance {
-            20..=29 => {
-                let spoiled = spoil::frame(&mut pen.random, &whole);
-                pen.receive(port, &spoiled, arrival);
-            }
-            30..=35 => {
-                pen.receive(port, &whole, arrival);
-                pen.receive(port, &whole, arrival);
-            }
-            36..=37 => {
-                let wrong = extras::any_port(pen);
-                pen.receive(wrong, &whole, arrival);
-            }
-            38..=39 => {
-                let wrong = limits::any_local(&mut pen.random);
-                pen.receive(port, &whole, wrong);
-            }
-            _ => {
-                pen.receive(port, &whole, arrival);
-            }
-        }
+        extras::arrive(pen, (place + 1) as u8, fields, arrival);
     }
 
     /// Takes a reading of the own clock, which is for the reading before.
@@ -439,25 +340,16 @@ impl Network {
     /// Moves a grand master's time, often to just before its end.
     fn move_grand(&mut self, random: &mut Random) {
         let master = random.below(self.masters.len() as u64) as usize;
-        let start = grand_start(random, self.tick) - self.time;
-        self.masters[master].clock.start = start;
+        let clock = &mut self.masters[master].clock;
+        clock.move_grand(random, self.tick, self.time);
     }
 }
 
 /// Makes a grand master.
 fn master(random: &mut Random, tick: u64, wild: bool) -> Master {
     Master {
-        clock: drifting(random, wild, |random| grand_start(random, tick)),
+        clock: Clock::of_grand(random, tick, wild),
         precedence: plans::precedence(random),
-    }
-}
-
-/// Makes a clock that drifts by chance.
-fn drifting(random: &mut Random, wild: bool, start: impl Fn(&mut Random) -> i128) -> Clock {
-    let most = if wild { DRIFT_WILD } else { DRIFT_USUAL };
-    Clock {
-        start: start(random),
-        drift: random.about(most),
     }
 }
 

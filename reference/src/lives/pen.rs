@@ -4,7 +4,7 @@ use super::random::Random;
 use super::spoil;
 use super::Sink;
 use crate::answer::{Answer, BAD_LINE};
-use crate::bridge::{Bridge, Listed, Plan};
+use crate::bridge::{Bridge, Listed, Plan, Profile};
 use crate::frame::{self, Fields, FRAME_LEN};
 use crate::hex;
 use crate::program::Program;
@@ -196,7 +196,10 @@ impl<'s> Pen<'s> {
 
     /// Writes a setup.
     pub fn setup(&mut self, plan: &Plan) -> Answer {
-        self.letter(b'S');
+        self.letter(match plan.profile {
+            Profile::Full => b'S',
+            Profile::Listener => b'P',
+        });
         self.number(u64::from(plan.ports));
         self.bytes(&plan.mac);
         self.precedence(plan.precedence);

@@ -1,13 +1,17 @@
 //! Setups, good ones and refused ones.
 
 use super::random::Random;
-use crate::bridge::{Plan, BACK_MOST, PORTS_MOST, TIMEOUTS};
+use crate::bridge::{
+    Plan, Profile, BACK_DEFAULT, BACK_MOST, LISTENER_BACK, LISTENER_PORTS, PORTS_MOST, TIMEOUTS,
+};
 use crate::rules::DELAY_MOST;
 
 /// The number whose lone capital digit stands for a default.
 const LIKE_DEFAULT: u64 = 0xD;
 /// The bits of a precedence below its first byte.
 const LOW_BITS: u32 = 96;
+/// In a thousand plans, how many are a listener's.
+const LISTENERS: u64 = 70;
 
 /// Gives one of a few precedences that differ in their first, in a middle or in their last byte.
 pub fn precedence(random: &mut Random) -> u128 {
@@ -19,6 +23,9 @@ pub fn precedence(random: &mut Random) -> u128 {
 
 /// Gives a plan that is taken.
 pub fn good(random: &mut Random) -> Plan {
+    if random.often(LISTENERS) {
+        return listener(random);
+    }
     let ports = random.pick(&[1, 1, 2, 2, 2, 3, 3, 4, 5, 6, 7, 8, 8]);
     of_ports(random, ports)
 }
@@ -44,6 +51,21 @@ pub fn of_ports(random: &mut Random, ports: u8) -> Plan {
         };
     }
     plan
+}
+
+/// Gives a plan of a listener that is taken.
+pub fn listener(random: &mut Random) -> Plan {
+    listening(of_ports(random, LISTENER_PORTS))
+}
+
+/// Gives a plan with what makes it a listener's, but for the ports.
+fn listening(plan: Plan) -> Plan {
+    Plan {
+        profile: Profile::Listener,
+        capable: false,
+        back: Some(LISTENER_BACK),
+        ..plan
+    }
 }
 
 /// Gives a timeout in range, or none for the default.
@@ -82,7 +104,12 @@ fn good_delay(random: &mut Random) -> Option<u64> {
 
 /// Gives a plan with something just or far out of range.
 pub fn refused(random: &mut Random) -> Plan {
-    let mut plan = good(random);
+    let plan = good(random);
+    out_of_range(random, plan)
+}
+
+/// Puts something of a plan just or far out of range.
+fn out_of_range(random: &mut Random, mut plan: Plan) -> Plan {
     match random.below(6) {
         0 => plan.ports = 0,
         1 => plan.ports = random.pick(&[9, 10, 255]),
@@ -93,6 +120,22 @@ pub fn refused(random: &mut Random) -> Plan {
             let place = random.below(PORTS_MOST as u64) % u64::from(plan.ports);
             plan.delays[place as usize] = Some(random.pick(&[DELAY_MOST + 1, u64::MAX]));
         }
+    }
+    plan
+}
+
+/// Gives a plan of a listener that is refused, mostly for what a full bridge may have.
+pub fn refused_listener(random: &mut Random) -> Plan {
+    let mut plan = listener(random);
+    match random.below(8) {
+        0 => {
+            let ports = random.within(u64::from(LISTENER_PORTS) + 1, PORTS_MOST as u64);
+            plan = listening(of_ports(random, ports as u8));
+        }
+        1 => plan.capable = true,
+        2 => plan.back = Some(random.pick(&[1, LIKE_DEFAULT, BACK_DEFAULT, BACK_MOST])),
+        3 => plan.back = None,
+        _ => plan = out_of_range(random, plan),
     }
     plan
 }

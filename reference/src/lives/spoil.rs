@@ -15,7 +15,7 @@ const NONSENSE_LONG: u64 = 70_000;
 /// What a line may wrongly contain.
 const STRANGE: &[u8] = b"\0\t\r gGmM-dDxX0fF+.#\x0B\x7F\x80\xC3\xFF";
 /// The letters of the calls and some others.
-const LETTERS: &[u8] = b"SLORACTDFWBslxZEM1-XIGUNKk";
+const LETTERS: &[u8] = b"SPLORACTDFWBslpxZEM1-XIGUNKk";
 
 /// Spoils a line, though not always so that it loses its form.
 pub fn line(random: &mut Random, line: &mut Vec<u8>) {

@@ -1,6 +1,7 @@
 -- Test by test.
 use borrow.Author.Needs.{needs}
-use borrow.Author.Tests.{le-leb, lt-leb, lt-ltb, le-ltb}
+use mathlib.Core.Path.{sym, _∙_}
+use borrow.Author.Tests.{le-leb, lt-leb, lt-ltb, le-ltb, not-true, not-false}
 use Rattle.bridge.specs.Fits.{setupFits}
 use Rattle.bridge_arguments.proofs.setup_fits.Statement.{statement}
 use Rattle.bridge_arguments.proofs.setup_fits.Tie as tie
@@ -34,20 +35,29 @@ returns-5 c =
     let b = d .before .before in
     rw (le-leb _ _ (b .before .before .if1 .left), le-leb _ _ (b .if2 .left), le-leb _ _ (d .if3 .left), le-leb _ _ (e .if4 .left), le-ltb _ _ (c .if5 .taken))
 
-delays-fit-requires : tie.Need-delays-fit-requires
-delays-fit-requires c κs = search needs
-
 returns-6 : tie.Need-returns-6
 unfolding setupFits
 returns-6 c =
-    let f = c .before .before in
+    let p = c .before in
+    let f = p .before .before in
     let e = f .before .before in
     let d = e .before .before in
     let b = d .before .before in
-    rw (le-leb _ _ (b .before .before .if1 .left), le-leb _ _ (b .if2 .left), le-leb _ _ (d .if3 .left), le-leb _ _ (e .if4 .left), lt-ltb _ _ (f .if5 .left))
+    rw (le-leb _ _ (b .before .before .if1 .left), le-leb _ _ (b .if2 .left), le-leb _ _ (d .if3 .left), le-leb _ _ (e .if4 .left), lt-ltb _ _ (f .if5 .left), sym (p .profile-fits .ensures) ∙ not-true _ (c .if6 .taken))
+
+returns-7 : tie.Need-returns-7
+unfolding setupFits
+returns-7 c =
+    let g = c .before .before in
+    let p = g .before in
+    let f = p .before .before in
+    let e = f .before .before in
+    let d = e .before .before in
+    let b = d .before .before in
+    rw (le-leb _ _ (b .before .before .if1 .left), le-leb _ _ (b .if2 .left), le-leb _ _ (d .if3 .left), le-leb _ _ (e .if4 .left), lt-ltb _ _ (f .if5 .left), sym (p .profile-fits .ensures) ∙ not-false _ (g .if6 .left))
     (c .delays-fit .ensures)
 
 pub setup-fits-spec : {M : Type 1} → statement M
 setup-fits-spec =
     tie.close
-    (tie.spec returns returns-2 returns-3 returns-4 returns-5 delays-fit-requires returns-6)
+    (tie.spec returns returns-2 returns-3 returns-4 returns-5 (λ c κs. search needs) returns-6 (λ c κs. search needs) returns-7)

@@ -22,10 +22,11 @@ returns c =
     let k = u .before in
     let m = k .before in
     let b = m .before in
-    let form = b .before .before .args .t1 in
+    let profile = b .before .before .args .profile in
+    let form = b .before .before .args .t2 in
     λ i. record {
       n = b .byte .ensures i;
-      sender = record { mac = m .mac .ensures i; back = defaulted form 5 (k .default-back .ensures) (u .number-or .ensures) i };
+      sender = record { profile = profile; mac = m .mac .ensures i; back = defaulted form 5 (k .default-back .ensures) (u .number-or .ensures) i };
       own = p .precedence .ensures i;
       capable = flagIn form 3;
       timeout = defaulted form 4 (d .default-timeout .ensures) (t .number-or2 .ensures) i;

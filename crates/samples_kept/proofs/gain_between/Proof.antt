@@ -30,7 +30,7 @@ returns-2 c =
     gain-outside _ _
     (λ k.
     let r = limits-rise _ _ _ k in
-    far-rise _ _ (sym (c .enum-told .given .1) ∙ c .before .before .risen .ensures) (r .0) (r .1))
+    far-rise _ _ (sym (c .enum-told .given .1) ∙ c .before .before .risen .ensures) (omega (arith, r .0)) (r .1))
 
 pub gain-between-spec : {M : Type 1} → statement M
 gain-between-spec = tie.close (tie.spec (λ c κs. search needs) (λ c κs. search needs) (λ c. search needs) gained-requires (λ c. search needs) returns returns-2)
