@@ -1,60 +1,45 @@
 -- Hops rise: the held hop of a frame that is taken lies above the frame's and is at most the last, so every frame that is passed on
 -- has a greater hop than the one that was heard; and one that is sent with the last hop is refused by the neighbour.
 use mathlib.Core.Path.{_≡_, refl, sym, ap, _∙_, subst}
-use mathlib.Core.Bool.{_&&_}
-use mathlib.Core.List.{List, []}
+use mathlib.Core.List.{List}
 use mathlib.Core.Logic.{_⊎_, inl, inr, ⊎-elim}
 use Prim.Native.Nat.{ℕ, suc, _-_, _<_}
 use native.Mathlib.Omega.{arith}
-use borrow.Author.Tests.{eqb-true, eqb-false}
-use lib.Dec.{eqb, leb}
-use lib.ListN.{length, take, set}
-use lib.Seq.{getD-set-same, getD-set-other}
+use lib.ListN.{length, take}
 use Rattle.numbers.specs.Bytes.{Bytes}
 use Rattle.refusals.specs.Refusals.{lastHopHeard}
-use Rattle.times.specs.Times.{circle}
 use Rattle.times.specs.declared.LocalTime.{LocalTime}
 use Rattle.choice.specs.Hop.{lastHop, hopOf}
 use Rattle.choice.specs.declared.Announcement.{Announcement}
-use Rattle.choice.specs.declared.Announcement.the-variants.{Silent, Announced}
+use Rattle.choice.specs.declared.Announcement.the-variants.{Silent}
 use Rattle.choice.specs.Precedence.{precedenceOf}
 use Rattle.choice.specs.declared.Precedence.{Precedence}
 use Rattle.choice.specs.declared.Candidate.{Candidate}
 use Rattle.choice.specs.declared.Candidate.the-variants.{Nothing, Clock}
-use Rattle.frame.specs.Frame.{frameLength, fieldsOf}
-use Rattle.frame.specs.Read.{rowsOf, readRefusal, readOf}
+use Rattle.frame.specs.Frame.{frameLength}
+use Rattle.frame.specs.Read.{readOf}
 use Rattle.frame.specs.declared.Fields.{Fields}
-use Rattle.frame.specs.declared.Reading.{Reading}
 use Rattle.frame.specs.declared.Reading.the-variants as Readings
-use Rattle.port.specs.Record.{emptyPort, agedPort}
 use Rattle.port.specs.Receive.{receivedOf}
 use Rattle.port.specs.declared.Setting.{Setting}
 use Rattle.port.specs.declared.Port.{Port}
 use Rattle.port.specs.declared.PortDone.{PortDone}
 use Rattle.choice.specs.Choose.{numberOf}
-use Rattle.bridge.specs.Table.{portAt, mostPorts, relinkedPort}
-use Rattle.bridge.specs.Arguments.{bit, portRefusal, sendRefusal, ownClockRefusal, maskBeyond}
+use Rattle.bridge.specs.Table.{portAt, mostPorts}
+use Rattle.bridge.specs.Arguments.{portRefusal}
 use Rattle.bridge.specs.declared.Setup.{Setup}
-use Rattle.bridge.specs.State.{TypedSetup, Lawful, FullBridge, withPort, storesPort}
+use Rattle.bridge.specs.State.{TypedSetup, Lawful, FullBridge, storesPort}
 use Rattle.bridge.specs.Setup.{setupOf}
-use Rattle.bridge.specs.Links.{linksOf}
-use Rattle.bridge.specs.Own.{ownClockOf}
-use Rattle.bridge.specs.Receive.{readBy, receiveFieldsOf, receiveOf}
-use Rattle.bridge.specs.Age.{ageOf}
+use Rattle.bridge.specs.Receive.{receiveOf}
 use Rattle.bridge.specs.Chosen.{chosenOf}
 use Rattle.bridge.specs.Send.{sendOf, sendBytes}
-use Rattle.bridge.specs.Demands.{Call, links, own-clock, receive, age, send, after, run, lastOf, lastTaken, hopAt, precedenceNumberAt, refusedLastHop, HeldAbove, PassedOn}
+use Rattle.bridge.specs.Demands.{Call, run, lastOf, lastTaken, hopAt, precedenceNumberAt, refusedLastHop, HeldAbove, PassedOn}
 use Rattle.bridge.specs.declared.Bridge.{Bridge}
 use Rattle.bridge.specs.declared.Done.{Done}
-use Rattle.bridge.specs.declared.Linked.{Linked}
-use Rattle.numbers.proofs.Branches.{if-when}
 use Rattle.choice.proofs.HopLaws.{hop-rises, hop-within}
-use Rattle.frame.proofs.FrameLaws.{read-number, framed}
 use Rattle.frame.proofs.Trip.{precedence-number, hop-number}
 use Rattle.port.proofs.PortLaws.{aged-is, received-is, received-last-hop, read-in-range}
-use Rattle.bridge.proofs.CheckLaws.{Ready, port-ready}
 use Rattle.bridge.proofs.StateLaws.{receive-read, receive-stores, chosen-number}
-use Rattle.bridge.proofs.Refused.{receive-answers}
 use Rattle.bridge.proofs.Records.{eight-records}
 use Rattle.bridge.proofs.Heard.{took, taken-stored, heard-run}
 use Rattle.bridge.proofs.Keeps.{setup-lawful, run-lawful}

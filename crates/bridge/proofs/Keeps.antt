@@ -19,12 +19,12 @@ use Rattle.frame.specs.declared.Reading.the-variants.{Frame, Refused}
 use Rattle.port.specs.Record.{emptyPort}
 use Rattle.port.specs.Lawful.{LawfulPort, LawfulClock, FieldsInRange}
 use Rattle.port.specs.declared.Profile.{Profile}
-use Rattle.port.specs.declared.Profile.the-variants.{Full, Listener}
+use Rattle.port.specs.declared.Profile.the-variants.{Listener}
 use Rattle.port.specs.declared.Port.{Port}
 use Rattle.port.specs.declared.OwnClock.{OwnClock}
 use Rattle.bridge.specs.Table.{each, portAt, mostPorts, relinkedPort}
 use Rattle.bridge.specs.Arguments.{bit, portRefusal, sendRefusal, ownClockRefusal, maskBeyond}
-use Rattle.bridge.specs.Fits.{leastTimeout, greatestTimeout, delaysFit, listenerPorts, profileFits, setupFits, noSetup}
+use Rattle.bridge.specs.Fits.{leastTimeout, greatestTimeout, delaysFit, listenerPorts, rangesFit, profileFits, setupFits, noSetup}
 use Rattle.bridge.specs.declared.Setup.{Setup}
 use Rattle.bridge.specs.State.{TypedSetup, ListenerSetup, LawfulSetup, Lawful, withPort, withLinks, withClock}
 use Rattle.bridge.specs.Setup.{freshOf, setupOf}
@@ -127,23 +127,23 @@ listener-taken s fits listens =
     by false e = refl
 
 pub setup-lawful : (s : Setup) → TypedSetup s → Lawful (setupOf s .next)
-unfolding setupOf setupFits
+unfolding setupOf setupFits rangesFit
 setup-lawful s typed =
     if-when Next (setupFits s)
     (λ e.
-    let a = both-hold (leb 1 (s .n)) _ e in
+    let g = both-hold (profileFits (s .sender .profile) (s .n) (s .capable) (s .sender .back)) _ e in
+    let a = both-hold (leb 1 (s .n)) _ (g .1) in
     let b = both-hold (leb (s .n) mostPorts) _ (a .1) in
     let c = both-hold (leb leastTimeout (s .timeout)) _ (b .1) in
     let d = both-hold (leb (s .timeout) greatestTimeout) _ (c .1) in
     let f = both-hold (ltb (s .sender .back) longestElapsed) _ (d .1) in
-    let g = both-hold (profileFits (s .sender .profile) (s .n) (s .capable) (s .sender .back)) _ (f .1) in
     fresh-lawful s (record {
       typed = typed;
       ports-most = leb-true _ _ (b .0);
       timeout-most = leb-true _ _ (d .0);
       back-small = ltb-true _ _ (f .0);
       listener-fits = listener-taken s (g .0);
-      delays-fit = g .1;
+      delays-fit = f .1;
     }))
     (λ _. fresh-lawful noSetup none-lawful)
 

@@ -1,29 +1,26 @@
 -- Listeners: what a listener's Send answers and writes; that a bridge takes its frames, at the last hop and as the worst clock there is; and that they give no line.
 use mathlib.Core.Path.{_≡_, refl, sym, ap, _∙_, subst}
 use mathlib.Core.List.{List, [], _∷_, List·Memᴰ, List·Memᴰ·head, List·Memᴰ·tail}
-use mathlib.Core.Logic.{_⊎_, inl, inr}
-use Prim.Native.Nat.{ℕ, suc, _-_, _<_, _≤_}
+use mathlib.Core.Logic.{_⊎_, inl, inr, ⊎-elim}
+use Prim.Native.Nat.{ℕ, suc, _-_, _<_}
 use native.Mathlib.Omega.{arith}
 use borrow.Author.Tests.{eqb-true, eqb-false}
 use lib.Dec.{eqb}
 use lib.ListN.{length, take}
-use Rattle.refusals.specs.Order.{First, nowhere, here, later, given}
-use Rattle.times.specs.declared.LocalTime.{LocalTime}
+use Rattle.refusals.specs.Order.{Condition, First, nowhere, here, later, given}
 use Rattle.samples.specs.Keep.{endsOf, howMany}
 use Rattle.samples.specs.declared.Samples.{Samples}
 use Rattle.samples.specs.declared.Ends.{Ends}
 use Rattle.samples.specs.declared.Ends.the-variants.{Few, Both}
 use Rattle.timeline.specs.Sent.{sentThrough, sentOf}
 use Rattle.choice.specs.Hop.{lastHop, hopOf}
-use Rattle.choice.specs.Precedence.{keyOf, precedenceOf, worstPrecedence}
-use Rattle.choice.specs.Choose.{rankOf, numberOf, chosenHop}
-use Rattle.choice.specs.Rank.{CandidateFits}
+use Rattle.choice.specs.Precedence.{keyOf, worstPrecedence}
+use Rattle.choice.specs.Choose.{rankOf, chosenHop}
 use Rattle.choice.specs.declared.Precedence.{Precedence}
 use Rattle.choice.specs.declared.Announcement.the-variants.{Announced}
 use Rattle.choice.specs.declared.Candidate.{Candidate}
-use Rattle.choice.specs.declared.Candidate.the-variants.{Nothing, Clock}
+use Rattle.choice.specs.declared.Candidate.the-variants.{Clock}
 use Rattle.frame.specs.Frame.{frameLength}
-use Rattle.frame.specs.Read.{readOf}
 use Rattle.frame.specs.declared.Fields.{Fields}
 use Rattle.frame.specs.declared.Reading.the-variants as Readings
 use Rattle.port.specs.Send.{sendingBy, clockSending, sendingNo, listenerHop}
@@ -33,9 +30,10 @@ use Rattle.port.specs.declared.PortDone.{PortDone}
 use Rattle.port.specs.declared.Sending.the-variants.{Refused}
 use Rattle.bridge.specs.Table.{portAt, mostPorts, samplesAt, samplesOfChoice}
 use Rattle.bridge.specs.Arguments.{portRefusal, sendRefusal}
-use Rattle.bridge.specs.State.{Lawful, FullBridge, Listens, answers}
+use Rattle.bridge.specs.State.{TypedSetup, ListenerSetup, Lawful, FullBridge, Listens, answers}
 use Rattle.bridge.specs.declared.Setup.{Setup}
 use Rattle.bridge.specs.Setup.{setupOf}
+use Rattle.bridge.specs.Own.{ownClockOf}
 use Rattle.bridge.specs.Receive.{settingAt, receiveFieldsOf, receiveOf}
 use Rattle.bridge.specs.Chosen.{chosenOf}
 use Rattle.bridge.specs.Send.{chosenSamples, sendingAt, sendOf, sendBytes}
@@ -45,16 +43,43 @@ use Rattle.bridge.specs.declared.Done.{Done}
 use Rattle.numbers.proofs.Branches.{if-when, if-both}
 use Rattle.samples.proofs.KeepLaws.{Still, still-few, both-ends}
 use Rattle.choice.proofs.WorstLaws.{worst-only}
-use Rattle.frame.proofs.Trip.{hop-number}
 use Rattle.port.proofs.PortLaws.{send-as, received-is}
 use Rattle.port.proofs.Order.{frame-order}
 use Rattle.port.proofs.ListenerLaws.{listener-hop, received-still, aged-still}
 use Rattle.bridge.proofs.CheckLaws.{send-is}
+use Rattle.bridge.proofs.Keeps.{setup-lawful, run-lawful}
+use Rattle.bridge.proofs.Refused.{own-answers}
+use Rattle.bridge.proofs.Order.{own-clock-order}
+use Rattle.bridge.proofs.Records.{listener-stays}
 use Rattle.bridge.proofs.StateLaws.{receive-read}
 use Rattle.bridge.proofs.Numbered.{candidates-fit}
 use Rattle.bridge.proofs.Least.{chosen-least}
 use Rattle.bridge.proofs.Sent.{listener-frame-read}
-use Rattle.bridge.proofs.Heard.{heardAt, took, taken-stored, heard-run}
+use Rattle.bridge.proofs.Heard.{took, taken-stored, heard-run}
+
+-- ---- a listener
+
+-- after any calls it has one port, is not capable and has backTime 0
+pub listener-setup : (s : Setup) (cs : List Call) → TypedSetup s → s .sender .profile ≡ Listener → setupOf s .answer ≡ 0 → ListenerSetup (run (setupOf s .next) cs .setup)
+listener-setup s cs typed listens done =
+    run-lawful (setupOf s .next) cs (setup-lawful s typed) .setup-lawful .listener-fits (listener-stays s cs listens done)
+
+-- so it has no own clock: a reading is refused with 2 or 10, and nothing is stored
+by-10 : {k : ℕ} {P Q R S : Type 0} {cs : List Condition} → S → First k (given 2 P ∷ given 2 Q ∷ given 2 R ∷ given 10 S ∷ cs) → (k ≡ 2) ⊎ (k ≡ 10)
+by-10 s (here _ _ _ e) = inl e
+by-10 s (later _ _ _ (here _ _ _ e)) = inl e
+by-10 s (later _ _ _ (later _ _ _ (here _ _ _ e))) = inl e
+by-10 s (later _ _ _ (later _ _ _ (later _ _ _ (here _ _ _ e)))) = inr e
+by-10 s (later _ _ _ (later _ _ _ (later _ _ _ (later _ _ n _)))) = absurd (n s)
+
+pub listener-own-clock : (b : Bridge) (count seconds fraction at : ℕ) → Lawful b → Listens b
+    → let d = ownClockOf b count seconds fraction at in ((d .answer ≡ 2) ⊎ (d .answer ≡ 10)) × (d .next ≡ b)
+listener-own-clock b count seconds fraction at lawful listens =
+    let refused = by-10 (lawful .setup-lawful .listener-fits listens .not-capable) (own-clock-order b count seconds fraction at) in
+    ⊎-elim
+    (λ z. absurd (⊎-elim (λ two. omega (arith, two, z)) (λ ten. omega (arith, ten, z)) refused))
+    (⊎-elim (λ r. r) (λ r. absurd (⊎-elim (λ two. omega (arith, two, r .0)) (λ ten. omega (arith, ten, r .0)) refused)))
+    (own-answers b count seconds fraction at)
 
 -- ---- a listener's Send
 

@@ -28,7 +28,7 @@ use Rattle.port.specs.declared.Profile.the-variants.{Full, Listener}
 use Rattle.port.specs.declared.Setting.{Setting}
 use Rattle.bridge.specs.Arguments.{bit, hasLink, onPort, portRefusal, sendRefusal, ownClockRefusal, maskBeyond}
 use Rattle.bridge.specs.Table.{portAt, samplesAt}
-use Rattle.bridge.specs.Fits.{delayFits, delaysFit, profileFits, setupFits}
+use Rattle.bridge.specs.Fits.{delayFits, delaysFit, rangesFit, profileFits, setupFits}
 use Rattle.bridge.specs.State.{Lawful, answers, refusedOr}
 use Rattle.bridge.specs.Setup.{freshOf, noBridge, setupOf}
 use Rattle.bridge.specs.Links.{linksOf, linkNo}
@@ -85,14 +85,15 @@ profile-fails Listener n capable back = either-fails (same-fails n 1) (either-fa
 
 -- each part of the test that Setup makes
 setup-checks : (s : Setup) → Checks 1 (setupFits s) (setupConditions s)
-unfolding setupFits
+unfolding setupFits rangesFit
 setup-checks s =
-    check-both (most-fails 1 (s .n))
+    check-both (profile-fails (s .sender .profile) (s .n) (s .capable) (s .sender .back))
+    (check-both (most-fails 1 (s .n))
     (check-both (most-fails (s .n) 8)
     (check-both (most-fails (2 ^ 36) (s .timeout))
     (check-both (most-fails (s .timeout) (2 ^ 46))
     (check-both (fails-same (λ h. omega (arith, h)) (λ h. omega (arith, h)) (less-fails (s .sender .back) (2 ^ 39)))
-    (check-both (profile-fails (s .sender .profile) (s .n) (s .capable) (s .sender .back)) (check (delays-fail (s .n) (s .settings))))))))
+    (check (delays-fail (s .n) (s .settings))))))))
 
 -- Setup refuses with 1 where one of its conditions holds, and else not
 pub setup-lowest : (s : Setup) → Lowest (setupConditions s) (setupOf s .answer)

@@ -16,7 +16,7 @@ use Rattle.port.specs.declared.Profile.the-variants.{Full, Listener}
 use Rattle.port.specs.declared.Port.{Port}
 use Rattle.bridge.specs.Table.{each, portAt, mostPorts, relinkedPort}
 use Rattle.bridge.specs.Arguments.{portRefusal, sendRefusal, ownClockRefusal, maskBeyond}
-use Rattle.bridge.specs.Fits.{setupFits}
+use Rattle.bridge.specs.Fits.{rangesFit, profileFits, setupFits}
 use Rattle.bridge.specs.declared.Setup.{Setup}
 use Rattle.bridge.specs.State.{FullBridge, Listens}
 use Rattle.bridge.specs.Setup.{setupOf}
@@ -100,10 +100,12 @@ unfolding setupOf
 setup-length s = if-when (λ (d : Done). length (d .next .ports) ≡ mostPorts) (setupFits s) (λ _. refl) (λ _. refl)
 
 pub setup-ports : (s : Setup) → setupOf s .next .setup .n ≤ mostPorts
-unfolding setupOf setupFits
+unfolding setupOf setupFits rangesFit
 setup-ports s =
     if-when (λ (d : Done). d .next .setup .n ≤ mostPorts) (setupFits s)
-    (λ e. leb-true _ _ (both-hold (leb (s .n) mostPorts) _ (both-hold (leb 1 (s .n)) _ e .1) .0))
+    (λ e.
+    let ranges = both-hold (profileFits (s .sender .profile) (s .n) (s .capable) (s .sender .back)) _ e .1 in
+    leb-true _ _ (both-hold (leb (s .n) mostPorts) _ (both-hold (leb 1 (s .n)) _ ranges .1) .0))
     (λ _. lit≤ tt)
 
 run-alike : (b : Bridge) (cs : List Call) → Alike b (run b cs)

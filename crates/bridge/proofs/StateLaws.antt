@@ -34,7 +34,7 @@ use Rattle.port.specs.declared.PortDone.{PortDone}
 use Rattle.port.specs.declared.ClockDone.{ClockDone}
 use Rattle.bridge.specs.Table.{mostPorts, each, portAt, samplesAt, samplesOfChoice, relinkedPort}
 use Rattle.bridge.specs.Arguments.{portRefusal, sendRefusal, ownClockRefusal, maskBeyond}
-use Rattle.bridge.specs.Fits.{setupFits}
+use Rattle.bridge.specs.Fits.{rangesFit, profileFits, setupFits}
 use Rattle.bridge.specs.declared.Setup.{Setup}
 use Rattle.bridge.specs.State.{withPorts, answers, linked, storesPort, storesClock, refusedOr, Lawful}
 use Rattle.bridge.specs.Setup.{freshOf, noBridge, setupOf}
@@ -70,13 +70,22 @@ refuses b want k x e n = ap (λ (j : ℕ). answers j b) e ∙ stops want k e x (
 -- ---- setup
 
 module _ (s : Setup) where
-  pub setup-done : setupFits s ≡ true → answers 0 (freshOf s) ≡ setupOf s
-  unfolding setupOf
-  setup-done e = if-true _ _ _ e
+  -- both tests hold, or one does not
+  pub setup-done : profileFits (s .sender .profile) (s .n) (s .capable) (s .sender .back) ≡ true → rangesFit s ≡ true → answers 0 (freshOf s) ≡ setupOf s
+  unfolding setupOf setupFits
+  setup-done profile ranges = if-true (setupFits s) _ _ (rw (profile, ranges) refl)
 
   pub setup-refused : setupFits s ≡ false → answers 1 noBridge ≡ setupOf s
   unfolding setupOf
   setup-refused e = if-false _ _ _ e
+
+  pub profile-refused : profileFits (s .sender .profile) (s .n) (s .capable) (s .sender .back) ≡ false → answers 1 noBridge ≡ setupOf s
+  unfolding setupFits
+  profile-refused profile = setup-refused (rw profile refl)
+
+  pub ranges-refused : profileFits (s .sender .profile) (s .n) (s .capable) (s .sender .back) ≡ true → rangesFit s ≡ false → answers 1 noBridge ≡ setupOf s
+  unfolding setupFits
+  ranges-refused profile ranges = setup-refused (rw (profile, ranges) refl)
 
 -- ---- a loop that changes the records where they are: of the state only they change, and the ranking with them; those below i have
 

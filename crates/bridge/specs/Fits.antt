@@ -31,6 +31,13 @@ unfoldable pub delaysFit : List Setting → Bool
 delaysFit [] = true
 delaysFit (s ∷ ss) = delayFits (s .delay) && delaysFit ss
 
+-- ports, timeout, backTime and fixed delays are in their ranges; entries beyond the n ports are not looked at
+unfoldable pub rangesFit : Setup → Bool
+rangesFit s =
+    leb 1 (s .n)
+    && (leb (s .n) mostPorts
+    && (leb leastTimeout (s .timeout) && (leb (s .timeout) greatestTimeout && (ltb (s .sender .back) longestElapsed && delaysFit (take (s .n) (s .settings))))))
+
 -- a listener has one port, is never capable, and has backTime 0
 abbrev pub listenerPorts : ℕ
 listenerPorts = 1
@@ -42,14 +49,9 @@ unfoldable pub profileFits : Profile → ℕ → Bool → ℕ → Bool
 profileFits Full n capable back = true
 profileFits Listener n capable back = eqb n listenerPorts && (not capable && eqb back listenerBack)
 
--- entries beyond the n ports are not looked at
+-- what Setup takes: what the profile allows, and these ranges
 unfoldable pub setupFits : Setup → Bool
-setupFits s =
-    leb 1 (s .n)
-    && (leb (s .n) mostPorts
-    && (leb leastTimeout (s .timeout)
-    && (leb (s .timeout) greatestTimeout
-    && (ltb (s .sender .back) longestElapsed && (profileFits (s .sender .profile) (s .n) (s .capable) (s .sender .back) && delaysFit (take (s .n) (s .settings)))))))
+setupFits s = profileFits (s .sender .profile) (s .n) (s .capable) (s .sender .back) && rangesFit s
 
 -- a port that measures its delay
 abbrev pub measuredSetting : Setting

@@ -43,15 +43,15 @@ abbrev pub ListenerOtherwise : Profile → ℕ → Bool → ℕ → Type 0
 ListenerOtherwise Full n capable back = ⊥
 ListenerOtherwise Listener n capable back = (n ≢ 1) ⊎ ((capable ≡ true) ⊎ (back ≢ 0))
 
--- ports not 1..8, timeout not 2^36..2^46, backTime above 2^39 - 1, a listener set up otherwise, a fixed delay above 2^30
+-- a listener set up otherwise; ports not 1..8, timeout not 2^36..2^46, backTime above 2^39 - 1, a fixed delay above 2^30
 abbrev pub setupConditions : Setup → List Condition
 setupConditions s =
-    given 1 (s .n < 1)
+    given 1 (ListenerOtherwise (s .sender .profile) (s .n) (s .capable) (s .sender .back))
+    ∷ given 1 (s .n < 1)
     ∷ given 1 (8 < s .n)
     ∷ given 1 (s .timeout < 2 ^ 36)
     ∷ given 1 (2 ^ 46 < s .timeout)
     ∷ given 1 (2 ^ 39 - 1 < s .sender .back)
-    ∷ given 1 (ListenerOtherwise (s .sender .profile) (s .n) (s .capable) (s .sender .back))
     ∷ given 1 (FixedAbove (s .n) (s .settings))
     ∷ []
 

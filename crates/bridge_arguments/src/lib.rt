@@ -5,7 +5,7 @@ ghost use lib.Dec.{leb};
 ghost use lib.ListN.{take};
 ghost use Rattle.times.specs.Times.{circle};
 ghost use Rattle.bridge.specs.Arguments.{hasLink, portRefusal, sendRefusal, ownClockRefusal, maskBeyond};
-ghost use Rattle.bridge.specs.Fits.{delayFits, delaysFit, profileFits, setupFits};
+ghost use Rattle.bridge.specs.Fits.{delayFits, delaysFit, rangesFit, profileFits};
 use bridge::Setup;
 use delay::DelaySetting;
 use frame::layout;
@@ -136,27 +136,9 @@ fn delays_fit(n: u8, settings: [Setting; 8]) -> bool
     true
 }
 
-// Whether a station of this profile may have so many ports, a clock of its own, and this backTime.
-fn profile_fits(profile: Profile, n: u8, capable: bool, back: u64) -> bool
-    ensures { λ r. ⌜ r ≡ profileFits profile n capable back ⌝ }
-{
-    match profile {
-        Profile::Full => true,
-        Profile::Listener => {
-            if n != LISTENER_PORTS {
-                return false;
-            }
-            if capable {
-                return false;
-            }
-            back == LISTENER_BACK
-        }
-    }
-}
-
-// Whether Setup takes this.
-pub fn setup_fits(s: Setup) -> bool
-    ensures { λ r. ⌜ r ≡ setupFits s ⌝ }
+// Whether ports, timeout, backTime and fixed delays are in their ranges.
+pub fn ranges_fit(s: Setup) -> bool
+    ensures { λ r. ⌜ r ≡ rangesFit s ⌝ }
 {
     if s.n < FEWEST_PORTS {
         return false;
@@ -173,11 +155,24 @@ pub fn setup_fits(s: Setup) -> bool
     if BACK_END <= s.sender.back {
         return false;
     }
-    let sender = s.sender;
-    let profile = sender.profile;
-    if !profile_fits(profile, s.n, s.capable, sender.back) {
-        return false;
-    }
     let settings = s.settings;
     delays_fit(s.n, settings)
+}
+
+// Whether a station of this profile may have so many ports, a clock of its own, and this backTime.
+pub fn profile_fits(profile: Profile, n: u8, capable: bool, back: u64) -> bool
+    ensures { λ r. ⌜ r ≡ profileFits profile n capable back ⌝ }
+{
+    match profile {
+        Profile::Full => true,
+        Profile::Listener => {
+            if n != LISTENER_PORTS {
+                return false;
+            }
+            if capable {
+                return false;
+            }
+            back == LISTENER_BACK
+        }
+    }
 }

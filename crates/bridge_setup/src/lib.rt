@@ -62,11 +62,15 @@ fn fresh(s: Setup) -> Bridge
 pub fn setup(given: Setup) -> Done
     ensures { λ r. ⌜ DonePromise (setupOf given) r ⌝ }
 {
-    if bridge_arguments::setup_fits(given) {
-        return Done {
-            answer: refusals::DONE,
-            next: fresh(given),
-        };
+    let sender = given.sender;
+    let profile = sender.profile;
+    if bridge_arguments::profile_fits(profile, given.n, given.capable, sender.back) {
+        if bridge_arguments::ranges_fit(given) {
+            return Done {
+                answer: refusals::DONE,
+                next: fresh(given),
+            };
+        }
     }
     Done {
         answer: refusals::BAD_SETUP,

@@ -1,8 +1,7 @@
 -- What a record makes of a listener's frames: they are held at the last hop, and of their samples one stands alone.
-use mathlib.Core.Path.{_≡_, ap, _∙_}
+use mathlib.Core.Path.{_≡_, ap}
 use Prim.Native.Nat.{ℕ}
 use Rattle.times.specs.Times.{units}
-use Rattle.times.specs.declared.GrandTime.{GrandTime}
 use Rattle.times.specs.declared.LocalTime.{LocalTime}
 use Rattle.choice.specs.Hop.{lastHop, hopOf}
 use Rattle.frame.specs.declared.Fields.{Fields}

@@ -8,6 +8,7 @@ use super::plans;
 use super::random::Random;
 use super::spoil;
 use super::timestamps;
+use crate::answer::{BEYOND_RANGE, NO_CLOCK};
 use crate::frame::{self, Fields, FRAME_LEN};
 use crate::replay::BYTES_MOST;
 use crate::rules::{self, HOP_NONE, REACH_END};
@@ -90,6 +91,20 @@ pub fn arrive(pen: &mut Pen, port: u8, mut fields: Fields, arrival: u64) {
             pen.receive(port, &whole, arrival);
         }
     }
+}
+
+/// Sends at a port with the departure of the frame before, or with the time now where none has left, and gives the frame where it mostly arrives.
+pub fn depart(pen: &mut Pen, port: u8, left: &mut Option<u64>, now: u64) -> Option<Fields> {
+    let departure = left.unwrap_or(now);
+    let length = output_length(&mut pen.random);
+    let (answer, sent) = pen.send(port, departure, length);
+    if sent.is_some() {
+        *left = Some(now);
+    }
+    if (NO_CLOCK..=BEYOND_RANGE).contains(&answer) {
+        *left = None;
+    }
+    sent.filter(|_| pen.random.often(975))
 }
 
 /// Sends with a departure at a limit of the chosen clock's reach or of grand time.

@@ -7,7 +7,7 @@ use super::panel;
 use super::pen::Pen;
 use super::plans;
 use super::random::Random;
-use crate::answer::{BEYOND_RANGE, DONE, NO_CLOCK};
+use crate::answer::DONE;
 use crate::bridge::{Calls, Listed, Plan, Profile, OWN};
 use crate::frame::{self, Fields, FRAME_LEN, PRECEDENCE_WORST};
 use crate::rules::{HOP_LAST, HOP_NONE};
@@ -281,17 +281,9 @@ impl Cables {
         let now = self.soon(&mut pen.random, 4);
         let time = self.clock.local(now);
         let far = &mut self.fars[place];
-        let departure = far.near_left.unwrap_or(time);
-        let length = extras::output_length(&mut pen.random);
-        let (answer, sent) = pen.send((place + 1) as u8, departure, length);
-        if let Some(fields) = sent {
-            far.near_left = Some(time);
-            if pen.random.often(975) {
-                far.hear(&fields, now);
-            }
-        }
-        if (NO_CLOCK..=BEYOND_RANGE).contains(&answer) {
-            far.near_left = None;
+        let port = (place + 1) as u8;
+        if let Some(fields) = extras::depart(pen, port, &mut far.near_left, time) {
+            far.hear(&fields, now);
         }
     }
 

@@ -8,7 +8,7 @@ use super::pen::Pen;
 use super::plans;
 use super::random::Random;
 use super::timestamps;
-use crate::answer::{BEYOND_RANGE, DONE, NO_CLOCK};
+use crate::answer::DONE;
 use crate::bridge::Plan;
 use crate::frame::Fields;
 use crate::port::Heard;
@@ -235,17 +235,9 @@ impl Network {
         let now = self.soon(&mut pen.random, 4);
         let time = self.clock.local(now);
         let neighbour = &mut self.neighbours[place];
-        let departure = neighbour.bridge_left.unwrap_or(time);
-        let length = extras::output_length(&mut pen.random);
-        let (answer, sent) = pen.send((place + 1) as u8, departure, length);
-        if let Some(fields) = sent {
-            neighbour.bridge_left = Some(time);
-            if pen.random.often(975) {
-                neighbour.hear(&fields, now + neighbour.link);
-            }
-        }
-        if (NO_CLOCK..=BEYOND_RANGE).contains(&answer) {
-            neighbour.bridge_left = None;
+        let port = (place + 1) as u8;
+        if let Some(fields) = extras::depart(pen, port, &mut neighbour.bridge_left, time) {
+            neighbour.hear(&fields, now + neighbour.link);
         }
     }
 

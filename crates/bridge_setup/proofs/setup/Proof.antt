@@ -1,20 +1,15 @@
 -- By what Setup takes.
 use borrow.Author.Needs.{needs}
 use mathlib.Core.Path.{_≡_, sym, ap, _∙_}
+use mathlib.Core.Logic.{⊎-elim}
 use lib.ListN.{length, length-map}
 use Rattle.bridge.specs.State.{TypedSetup, answers}
-use Rattle.bridge.specs.Setup.{freshOf}
-use Rattle.bridge.proofs.StateLaws.{setup-done, setup-refused}
+use Rattle.bridge.specs.Setup.{freshOf, noBridge, setupOf}
+use Rattle.bridge.proofs.StateLaws.{setup-done, profile-refused, ranges-refused}
 use Rattle.bridge.proofs.Keeps.{setup-lawful}
 use Rattle.bridge.proofs.PromiseLaws.{out}
 use Rattle.bridge_setup.proofs.setup.Statement.{statement}
 use Rattle.bridge_setup.proofs.setup.Tie as tie
-
-setup-fits-requires : tie.Need-setup-fits-requires
-setup-fits-requires c κs = search needs
-
-fresh-requires : tie.Need-fresh-requires
-fresh-requires c κs = search needs
 
 -- there are eight settings, by what the last field of a setup is
 eight : (c : tie.Start) → length (c .args .given .settings) ≡ 8
@@ -30,30 +25,36 @@ typed c = record {
 
 returns : tie.Need-returns
 returns c =
-    let o = c .before .before in
-    out _ _ (ap (answers 0) (c .fresh .ensures) ∙ setup-done _ (sym (o .setup-fits .ensures) ∙ c .before .if1 .taken)) (setup-lawful _ (typed (o .before)))
+    let r = c .before .before in
+    let p = r .before .before in
+    out _ _
+    (ap (answers 0) (c .fresh .ensures) ∙ setup-done _ (sym (p .profile-fits .ensures) ∙ r .before .if1 .taken) (sym (r .ranges-fit .ensures) ∙ c .before .if2 .taken))
+    (setup-lawful _ (typed (p .before .before)))
 
-plain-setup-requires : tie.Need-plain-setup-requires
-plain-setup-requires c κs = search needs
-
-fresh-requires-2 : tie.Need-fresh-requires-2
-fresh-requires-2 c κs = search needs
+-- one of the two tests does not hold
+refused : (c : tie.Joined1) → answers 1 noBridge ≡ setupOf (c .before .before .before .args .given)
+refused c =
+    let profile = c .before .profile-fits .ensures in
+    ⊎-elim
+    (λ w. ranges-refused _ (sym profile ∙ w .0 .taken) (sym (w .1 .ensures) ∙ w .2 .left))
+    (λ w. profile-refused _ (sym profile ∙ w .left))
+    (c .if1 .came)
 
 returns-2 : tie.Need-returns-2
 returns-2 c =
     let m = c .before in
-    let o = m .before .before in
     out _ _
-    (ap (answers 1) (c .fresh2 .ensures ∙ ap freshOf (m .plain-setup .ensures)) ∙ setup-refused _ (sym (o .setup-fits .ensures) ∙ m .before .if1 .left))
-    (setup-lawful _ (typed (o .before)))
+    (ap (answers 1) (c .fresh2 .ensures ∙ ap freshOf (m .plain-setup .ensures)) ∙ refused (m .before))
+    (setup-lawful _ (typed (m .before .before .before .before)))
 
 pub setup-spec : {M : Type 1} → statement M
 setup-spec =
     tie.close
     (tie.spec
-    setup-fits-requires
-    fresh-requires
+    (λ c κs. search needs)
+    (λ c κs. search needs)
+    (λ c κs. search needs)
     returns
-    plain-setup-requires
-    fresh-requires-2
+    (λ c κs. search needs)
+    (λ c κs. search needs)
     returns-2)
