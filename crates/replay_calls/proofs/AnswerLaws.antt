@@ -1,7 +1,8 @@
--- Laws of what a line is answered with: a drift is a number, K 0 prints what C does, and which lines leave the state as it is.
+-- Laws of what a line is answered with: a drift is a number, K 0 prints what C does, which letters are Setup's, and which lines leave the state as it is.
 use mathlib.Core.Path.{_≡_, refl, sym, ap, _∙_}
 use mathlib.Core.Bool.{Bool, true, false, cond, true≢false}
 use mathlib.Core.List.{List}
+use mathlib.Core.Logic.{_⊎_, inl, inr}
 use Prim.Native.Nat.{ℕ, zero, suc, _+_, _*_, _^_, _<_}
 use native.Mathlib.Omega.{arith}
 use borrow.Author.Tests.{lt-leb, ne-eqb}
@@ -16,17 +17,19 @@ use Rattle.samples.specs.declared.Ends.the-variants.{Few, Both}
 use Rattle.timeline.specs.Drift.{ppmOf, driftThrough, driftOf}
 use Rattle.bridge.specs.State.{Lawful}
 use Rattle.bridge.specs.Table.{samplesAt}
+use Rattle.bridge.specs.Setup.{setupOf}
 use Rattle.bridge.specs.Ranked.{rankedOf}
 use Rattle.bridge.specs.Drift.{driftAt}
 use Rattle.bridge.specs.declared.Bridge.{Bridge}
 use Rattle.bridge.proofs.Ranking.{chosen-head}
-use Rattle.answer.specs.Answer.{Answer, says, refusedLine}
+use Rattle.answer.specs.Answer.{Answer, says, refusedLine, doneSays}
 use Rattle.forms.specs.Form.{noForm}
 use Rattle.forms.specs.Value.{byteIn}
 use Rattle.forms.specs.declared.Form.{Form}
 use Rattle.replay_grammar.specs.Row.{letterS, letterP, letterL, letterO, letterR, letterA, letterC, letterT, letterK}
 use Rattle.replay_grammar.specs.Line.{asksBy, longestLine, mayBeLine, letterOf, formIn, formFor, asks}
 use Rattle.replay_grammar.proofs.LineLaws.{form-some, asks-letter}
+use Rattle.replay_setup.specs.Argument.{setupIn}
 use Rattle.replay_calls.specs.Answer.{chosenText, IsNumber, askedText, callOf, answerOf}
 
 -- ---- a drift is a number
@@ -66,6 +69,13 @@ drift-number b p = if-when IsNumber (ltb (b .setup .n) p) (λ t. tt) (λ t. samp
 pub ranked-first : (b : Bridge) (f : Form) → Lawful b → byteIn f 0 ≡ 0 → askedText letterK b f ≡ askedText letterC b f
 unfolding askedText
 ranked-first b f lawful e = ap chosenText (ap (rankedOf b) e ∙ chosen-head b lawful)
+
+-- ---- a letter of Setup
+
+pub call-setup : (letter : ℕ) (b : Bridge) (f : Form) → (letter ≡ letterS) ⊎ (letter ≡ letterP) → doneSays (setupOf (setupIn letter f)) ≡ callOf letter b f
+unfolding callOf
+call-setup letter b f (inl s) = rw s refl
+call-setup letter b f (inr p) = rw p refl
 
 -- ---- a letter that asks
 

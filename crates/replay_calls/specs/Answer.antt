@@ -11,7 +11,6 @@ use Rattle.timeline.specs.declared.Drift.{Drift}
 use Rattle.timeline.specs.declared.Drift.the-variants.{NoReading, PartsPerMillion, Refused as noClock}
 use Rattle.choice.specs.Choose.{shownPort, shownHop}
 use Rattle.choice.specs.declared.Candidate.{Candidate}
-use Rattle.port.specs.declared.Profile.the-variants.{Full, Listener}
 use Rattle.bridge.specs.Setup.{setupOf}
 use Rattle.bridge.specs.Links.{linksOf, linkNo, linkCount}
 use Rattle.bridge.specs.Own.{ownClockOf}
@@ -89,8 +88,8 @@ askedText letter b f =
 -- S, P, L, O, R, A, T, and those
 unfoldable pub callOf : ℕ → Bridge → Form → Answer
 callOf letter b f =
-    cond (eqb letter letterS) (doneSays (setupOf (setupIn Full f)))
-    (cond (eqb letter letterP) (doneSays (setupOf (setupIn Listener f)))
+    cond (eqb letter letterS) (doneSays (setupOf (setupIn letter f)))
+    (cond (eqb letter letterP) (doneSays (setupOf (setupIn letter f)))
     (cond (eqb letter letterL) (linkedSays (linksOf b (byteIn f 0)))
     (cond (eqb letter letterO) (doneSays (ownClockOf b (byteIn f 0) (numberIn f 1) (numberIn f 2) (numberIn f 3)))
     (cond (eqb letter letterR) (doneSays (receiveOf b (byteIn f 0) (take (sizeIn f 2) (f .bytes)) (numberIn f 1)))

@@ -21,14 +21,13 @@ use bridge::Bridge;
 use bridge::LinkCount;
 use forms::Form;
 use forms::value;
-use port::Profile;
 
-// `S n mac prec capable timeout back d1 .. d8`; `P` with the same fields for a listener.
-pub fn setup(profile: Profile, form: Form, out: &mut [u8]) -> Answered
+// `S n mac prec capable timeout back d1 .. d8`, or `P` with the same fields.
+pub fn setup(letter: u8, form: Form, out: &mut [u8]) -> Answered
     requires { ⌜ longestAnswer ≤ length (now out) ⌝ }
-    ensures { λ r. ⌜ Says (doneSays (setupOf (setupIn profile form))) r (now (out .entry)) (now (out .exit)) ⌝ }
+    ensures { λ r. ⌜ Says (doneSays (setupOf (setupIn letter form))) r (now (out .entry)) (now (out .exit)) ⌝ }
 {
-    answer::done(bridge_setup::setup(replay_setup::given(profile, form)), out)
+    answer::done(bridge_setup::setup(replay_setup::given(letter, form)), out)
 }
 
 // Prints what Links answers.

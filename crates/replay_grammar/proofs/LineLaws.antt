@@ -1,7 +1,8 @@
--- Laws of a line: its letter and its form, and which letter is the last of those that do not ask.
+-- Laws of a line: its letter and its form, and which letters are Setup's.
 use mathlib.Core.Path.{_≡_, refl, sym, ap, _∙_}
 use mathlib.Core.Bool.{Bool, true, false, cond, true≢false}
 use mathlib.Core.List.{List, [], _∷_}
+use mathlib.Core.Logic.{_⊎_, inl, inr}
 use Prim.Native.Nat.{ℕ, _<_}
 use native.Mathlib.Omega.{arith}
 use borrow.Author.Tests.{eqb-true, ne-eqb}
@@ -14,16 +15,18 @@ use Rattle.forms.specs.declared.Form.{Form}
 use Rattle.replay_grammar.specs.Row.{letterS, letterP, letterL, letterO, letterR, letterA, letterT}
 use Rattle.replay_grammar.specs.Line.{mayBeLine, letterOf, formIn, formFor, asksBy, asks}
 
--- of the letters that do not ask, T is the last
-pub last-letter : (letter : ℕ) → (letter ≡ letterS → ⊥) → (letter ≡ letterP → ⊥) → (letter ≡ letterL → ⊥) → (letter ≡ letterO → ⊥) → (letter ≡ letterR → ⊥) → (letter ≡ letterA → ⊥)
-    → asksBy letter ≡ false → letter ≡ letterT
+-- of the letters that do not ask, those that are none of the others are Setup's
+pub setup-letter : (letter : ℕ) → (letter ≡ letterL → ⊥) → (letter ≡ letterO → ⊥) → (letter ≡ letterR → ⊥) → (letter ≡ letterA → ⊥) → (letter ≡ letterT → ⊥)
+    → asksBy letter ≡ false → (letter ≡ letterS) ⊎ (letter ≡ letterP)
 unfolding asksBy
-last-letter letter s p l o r a e =
-    by (eqb letter letterT) refl (rw (ne-eqb letter letterS s, ne-eqb letter letterP p, ne-eqb letter letterL l, ne-eqb letter letterO o, ne-eqb letter letterR r, ne-eqb letter letterA a) at e)
+setup-letter letter l o r a t e =
+    by (eqb letter letterS) refl (eqb letter letterP) refl
+    (rw (ne-eqb letter letterL l, ne-eqb letter letterO o, ne-eqb letter letterR r, ne-eqb letter letterA a, ne-eqb letter letterT t) at e)
   where
-    by : (t : Bool) → eqb letter letterT ≡ t → cond t false true ≡ false → letter ≡ letterT
-    by true k n = eqb-true letter letterT k
-    by false k n = absurd (true≢false n)
+    by : (s : Bool) → eqb letter letterS ≡ s → (p : Bool) → eqb letter letterP ≡ p → cond s false (cond p false true) ≡ false → (letter ≡ letterS) ⊎ (letter ≡ letterP)
+    by true k p q n = inl (eqb-true letter letterS k)
+    by false k true q n = inr (eqb-true letter letterP q)
+    by false k false q n = absurd (true≢false n)
 
 -- ---- a line that has a letter and its form
 

@@ -13,7 +13,6 @@ ghost use Rattle.replay_calls.specs.Answer.{askedText, callOf, answerOf};
 use answer::Answered;
 use bridge::Bridge;
 use forms::Form;
-use port::Profile;
 
 // The bridge before the first line: what a refused Setup hands back.
 pub fn start() -> Bridge
@@ -63,13 +62,12 @@ fn call(b: Bridge, letter: u8, form: Form, out: &mut [u8]) -> Answered
     ensures { λ r. ⌜ Says (callOf letter b form) r (now (out .entry)) (now (out .exit)) ⌝ }
 {
     match letter {
-        b'S' => replay_changes::setup(Profile::Full, form, out),
-        b'P' => replay_changes::setup(Profile::Listener, form, out),
         b'L' => replay_changes::links(b, form, out),
         b'O' => replay_changes::own_clock(b, form, out),
         b'R' => replay_changes::receive(b, form, out),
         b'A' => replay_changes::age(b, form, out),
-        _ => replay_changes::send(b, form, out),
+        b'T' => replay_changes::send(b, form, out),
+        _ => replay_changes::setup(letter, form, out),
     }
 }
 

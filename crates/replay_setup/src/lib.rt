@@ -2,7 +2,7 @@
 ghost use mathlib.Core.Path.{_≡_};
 ghost use Prim.Native.Nat.{_<_};
 ghost use Rattle.forms.specs.Form.{mostFields};
-ghost use Rattle.replay_setup.specs.Argument.{settingIn, settingsIn, setupIn};
+ghost use Rattle.replay_setup.specs.Argument.{settingIn, settingsIn, profileOf, setupIn};
 use bridge::Setup;
 use delay::DelaySetting;
 use forms::Form;
@@ -45,15 +45,25 @@ fn settings(form: Form) -> [Setting; 8]
     ]
 }
 
-// What Setup is given, for a station of this profile.
-pub fn given(profile: Profile, form: Form) -> Setup
-    ensures { λ r. ⌜ r ≡ setupIn profile form ⌝ }
+// The profile that a letter of Setup stands for.
+fn profile(letter: u8) -> Profile
+    ensures { λ r. ⌜ r ≡ profileOf letter ⌝ }
+{
+    match letter {
+        b'P' => Profile::Listener,
+        _ => Profile::Full,
+    }
+}
+
+// What Setup is given by a line with this letter.
+pub fn given(letter: u8, form: Form) -> Setup
+    ensures { λ r. ⌜ r ≡ setupIn letter form ⌝ }
 {
     let bytes = form.bytes;
     Setup {
         n: value::byte(form, 0),
         sender: Sender {
-            profile: profile,
+            profile: profile(letter),
             mac: replay_frames::mac(bytes),
             back: value::number_or(form, 5, bridge::default_back()),
         },

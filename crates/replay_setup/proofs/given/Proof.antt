@@ -21,12 +21,12 @@ returns c =
     let u = p .before in
     let k = u .before in
     let m = k .before in
-    let b = m .before in
-    let profile = b .before .before .args .profile in
+    let q = m .before in
+    let b = q .before in
     let form = b .before .before .args .t2 in
     λ i. record {
       n = b .byte .ensures i;
-      sender = record { profile = profile; mac = m .mac .ensures i; back = defaulted form 5 (k .default-back .ensures) (u .number-or .ensures) i };
+      sender = record { profile = q .profile .ensures i; mac = m .mac .ensures i; back = defaulted form 5 (k .default-back .ensures) (u .number-or .ensures) i };
       own = p .precedence .ensures i;
       capable = flagIn form 3;
       timeout = defaulted form 4 (d .default-timeout .ensures) (t .number-or2 .ensures) i;
@@ -37,6 +37,7 @@ pub given-spec : {M : Type 1} → statement M
 given-spec =
     tie.close
     (tie.spec
+    (λ c κs. search needs)
     (λ c κs. search needs)
     (λ c κs. search needs)
     (λ c κs. search needs)
