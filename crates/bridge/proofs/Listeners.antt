@@ -178,12 +178,22 @@ ends-few samples h = by (endsOf samples) refl
     by Few q = refl
     by (Both x y) q = absurd (both-ends samples x y q h)
 
--- so a full bridge that has chosen that port's clock sends nothing for it, at any port: 11
+-- A LISTENER ALONE GIVES NO LINE: where that port's clock is chosen, there are no two samples to read one off
+pub listeners-no-line : (s : Setup) (cs : List Call) (i : ℕ) {p : Precedence} {h : ℕ}
+    → let b = run (setupOf s .next) cs in
+    i < mostPorts → HeardListeners i (setupOf s .next) cs → chosenOf b ≡ Clock p h (suc i) → endsOf (chosenSamples b) ≡ Few
+unfolding samplesOfChoice samplesAt
+listeners-no-line s cs i below heard chosen =
+    let b = run (setupOf s .next) cs in
+    let samples = portAt (b .ports) i .samples in
+    ap (λ (c : Candidate). endsOf (samplesOfChoice c (b .clock) (b .ports))) chosen ∙ ends-few samples (still-few 0 samples (heard-still s cs i below heard))
+
+-- so a full bridge sends nothing for it, at any port: 11
 pub listeners-few : (s : Setup) (cs : List Call) (i port t room : ℕ) {p : Precedence} {h : ℕ}
     → let b = run (setupOf s .next) cs in
     FullBridge b → i < mostPorts → HeardListeners i (setupOf s .next) cs → chosenOf b ≡ Clock p h (suc i) → sendRefusal (b .setup .n) (b .links) port t room ≡ 0
     → sendOf b port t room .answer ≡ 11
-unfolding sendOf sendingAt sentOf samplesOfChoice samplesAt
+unfolding sendOf sendingAt sentOf
 listeners-few s cs i port t room {p} {h} full below heard chosen clear =
     if-when (λ (d : Done). d .answer ≡ 11) (eqb (sendRefusal (b .setup .n) (b .links) port t room) 0)
     (λ _. ap sendingNo (sym (send-as (chosenOf b) (chosenSamples b) (b .setup .sender) (record { 0 = t }) held Full full) ∙ for-clock))
@@ -195,10 +205,8 @@ listeners-few s cs i port t room {p} {h} full below heard chosen clear =
     held : Port
     held = portAt (b .ports) (port - 1)
 
-    few : endsOf (portAt (b .ports) i .samples) ≡ Few
-    few = let samples = portAt (b .ports) i .samples in ends-few samples (still-few 0 samples (heard-still s cs i below heard))
-
     for-clock : clockSending (chosenOf b) (chosenSamples b) (b .setup .sender) (record { 0 = t }) held ≡ Refused 11
     for-clock =
-        ap (λ (c : Candidate). clockSending c (samplesOfChoice c (b .clock) (b .ports)) (b .setup .sender) (record { 0 = t }) held) chosen
-        ∙ ap (λ (e : Ends). sendingBy (sentThrough e (record { 0 = t }) (b .setup .sender .back)) (b .setup .sender) p h (record { 0 = t }) held) few
+        ap (λ (c : Candidate). clockSending c (chosenSamples b) (b .setup .sender) (record { 0 = t }) held) chosen
+        ∙ ap (λ (e : Ends). sendingBy (sentThrough e (record { 0 = t }) (b .setup .sender .back)) (b .setup .sender) p h (record { 0 = t }) held)
+        (listeners-no-line s cs i below heard chosen)

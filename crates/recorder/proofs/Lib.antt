@@ -5,3 +5,4 @@ pub mod Near
 pub mod Order
 pub mod Conditions
 pub mod Edges
+pub mod Listeners
