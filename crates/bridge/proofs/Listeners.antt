@@ -8,10 +8,9 @@ use borrow.Author.Tests.{eqb-true, eqb-false}
 use lib.Dec.{eqb}
 use lib.ListN.{length, take}
 use Rattle.refusals.specs.Order.{Condition, First, nowhere, here, later, given}
-use Rattle.samples.specs.Keep.{endsOf, howMany}
-use Rattle.samples.specs.declared.Samples.{Samples}
+use Rattle.samples.specs.Keep.{endsOf}
 use Rattle.samples.specs.declared.Ends.{Ends}
-use Rattle.samples.specs.declared.Ends.the-variants.{Few, Both}
+use Rattle.samples.specs.declared.Ends.the-variants.{Few}
 use Rattle.timeline.specs.Sent.{sentThrough, sentOf}
 use Rattle.choice.specs.Hop.{lastHop, hopOf}
 use Rattle.choice.specs.Precedence.{keyOf, worstPrecedence}
@@ -41,7 +40,7 @@ use Rattle.bridge.specs.Demands.{From, ListenerAnswers, candidates, NoWo
 use Rattle.bridge.specs.declared.Bridge.{Bridge}
 use Rattle.bridge.specs.declared.Done.{Done}
 use Rattle.numbers.proofs.Branches.{if-when, if-both}
-use Rattle.samples.proofs.KeepLaws.{Still, still-few, both-ends}
+use Rattle.samples.proofs.KeepLaws.{Still, still-few, ends-few}
 use Rattle.choice.proofs.WorstLaws.{worst-only}
 use Rattle.port.proofs.PortLaws.{send-as, received-is}
 use Rattle.port.proofs.Order.{frame-order}
@@ -169,14 +168,6 @@ heard-still s cs i h =
     let same : f ≡ from .fields = cc in
     received-still setting chosen f at p (ap (λ (g : Fields). g .grand) same ∙ from .grand) (u (λ x m. all x (List·Memᴰ·tail m))))
     s cs h
-
--- fewer than two samples have no ends
-ends-few : (samples : Samples) → howMany samples < 2 → endsOf samples ≡ Few
-ends-few samples h = by (endsOf samples) refl
-  where
-    by : (e : Ends) → endsOf samples ≡ e → e ≡ Few
-    by Few q = refl
-    by (Both x y) q = absurd (both-ends samples x y q h)
 
 -- A LISTENER ALONE GIVES NO LINE: where that port's clock is chosen, there are no two samples to read one off
 pub listeners-no-line : (s : Setup) (cs : List Call) (i : ℕ) {p : Precedence} {h : ℕ}

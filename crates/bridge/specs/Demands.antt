@@ -1,4 +1,4 @@
--- What the theorems on the calls say: which answers there are and what each leaves, the line of demand 3, the drift, the candidates, calls in a row, and hops.
+-- What the theorems on the calls say: which answers there are and what each leaves, the line of demand 3, the drift, the candidates, calls in a row, listeners, and hops.
 use mathlib.Core.Path.{_≡_}
 use mathlib.Core.Bool.{cond, not}
 use mathlib.Core.List.{List, [], _∷_, List·Memᴰ}

@@ -48,11 +48,11 @@ listenerSetups =
 -- ---- its frames
 
 -- an output before a send
-abbrev pub untouched : List ℕ
+abbrev untouched : List ℕ
 untouched = replicate 64 0xA5
 
 -- a listener whose port has a link, and after a send at each of two local times 2^33 apart
-abbrev pub linked : Bridge
+abbrev linked : Bridge
 linked = linksOf (setupOf (listening 1 false 0) .next) 1 .next
 
 abbrev sentOnce : Bridge
@@ -65,7 +65,7 @@ sentTwice = sendOf sentOnce 1 0x010403040506 64 .next
 abbrev pub first : List ℕ
 first = sendBytes linked 1 0x010203040506 untouched
 
-abbrev pub second : List ℕ
+abbrev second : List ℕ
 second = sendBytes sentOnce 1 0x010403040506 untouched
 
 abbrev pub third : List ℕ

@@ -42,7 +42,7 @@ pub enum Profile {
     Listener,
 }
 
-// What a station puts into every frame that it sends: by its profile, with its address, and the backTime by which grand time is read.
+// What decides what a station puts into its frames: its profile, its address, and the backTime by which a full bridge reads grand time.
 pub struct Sender {
     pub profile: Profile,
     pub mac: Mac,

@@ -54,6 +54,12 @@ few-ends Empty q = lit< tt
 few-ends (One a) q = lit< tt
 few-ends (Two a b) q = let clash : _≡_ {A = ℕ} 0 1 = cc in absurd (omega arith)
 
+pub ends-few : (samples : Samples) → howMany samples < 2 → endsOf samples ≡ Few
+unfolding endsOf
+ends-few Empty h = refl
+ends-few (One a) h = refl
+ends-few (Two a b) h = absurd (omega (arith, h))
+
 pub both-ends : (samples : Samples) (a b : Sample) → endsOf samples ≡ Both a b → howMany samples < 2 → ⊥
 unfolding endsOf
 both-ends Empty a b q h = let clash : _≡_ {A = ℕ} 0 1 = cc in omega arith
