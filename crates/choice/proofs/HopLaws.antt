@@ -12,7 +12,7 @@ use Rattle.numbers.proofs.Branches.{if-when}
 -- ---- the jump
 
 -- a jump is a step or more, and does not pass the last hop
-jump-rises : (h : ℕ) → 1 ≤ jumpOf h
+pub jump-rises : (h : ℕ) → 1 ≤ jumpOf h
 unfolding jumpOf
 jump-rises h = omega arith
 

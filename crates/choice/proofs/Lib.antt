@@ -5,6 +5,7 @@ pub mod CompareLaws
 pub mod RankLaws
 pub mod WorstLaws
 pub mod HopLaws
+pub mod PassesLaws
 pub mod ShownLaws
 pub mod LeastLaws
 pub mod RankingLaws

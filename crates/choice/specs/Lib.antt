@@ -1,5 +1,6 @@
 pub mod Precedence
 pub mod Hop
+pub mod Passes
 pub mod Choose
 pub mod Monoid
 pub mod Permutation

@@ -7,7 +7,7 @@ ghost use Rattle.choice.specs.Hop.{lastHop, jumpOf, hopOf};
 pub const LAST_HOP: u8 = 255;
 
 // The jump of a frame with hop h from beyond the chosen clock: half way to the last hop, and never less than a single step.
-fn jump(h: u8) -> u8
+pub fn jump(h: u8) -> u8
     ensures { λ r. ⌜ r ≡ jumpOf h ⌝ }
 {
     let half = (LAST_HOP - h) / 2;
