@@ -12,6 +12,8 @@ use Rattle.numbers.specs.Bytes.{Bytes}
 use Rattle.times.specs.Times.{circle}
 use Rattle.times.specs.declared.LocalTime.{LocalTime}
 use Rattle.choice.specs.Choose.{chosenHop}
+use Rattle.choice.specs.Hop.{hopOf}
+use Rattle.choice.specs.declared.Announcement.the-variants.{Announced}
 use Rattle.frame.specs.Frame.{fieldsOf}
 use Rattle.frame.specs.Read.{rowsOf, readRefusal, readOf}
 use Rattle.frame.specs.declared.Fields.{Fields}
@@ -33,7 +35,7 @@ use Rattle.bridge.specs.Receive.{settingAt, readBy, receiveFieldsOf, rec
 use Rattle.bridge.specs.Age.{ageOf}
 use Rattle.bridge.specs.Chosen.{chosenOf}
 use Rattle.bridge.specs.Send.{sendOf}
-use Rattle.bridge.specs.Demands.{Call, links, own-clock, receive, age, send, after, run, takenBy, taken}
+use Rattle.bridge.specs.Demands.{Call, links, own-clock, receive, age, send, after, run, along, takenBy, taken}
 use Rattle.bridge.specs.declared.Bridge.{Bridge}
 use Rattle.bridge.specs.declared.Done.{Done}
 use Rattle.bridge.specs.declared.Linked.{Linked}
@@ -41,7 +43,8 @@ use Rattle.numbers.proofs.Branches.{if-when, if-both}
 use Rattle.frame.proofs.FrameLaws.{read-number, framed}
 use Rattle.bridge.proofs.CheckLaws.{Ready, port-ready}
 use Rattle.bridge.proofs.Refused.{receive-answers}
-use Rattle.bridge.proofs.Records.{replaced, each-record, record-run}
+use Rattle.port.proofs.PortLaws.{received-announces}
+use Rattle.bridge.proofs.Records.{replaced, each-record, along-run, record-run}
 
 -- ---- a frame that is taken
 
@@ -84,6 +87,15 @@ taken-stored b port frame arrival h e =
     let t = took b port frame arrival e in
     ap (λ (x : Bridge). portAt (x .ports) (port - 1)) (t .state)
     ∙ getD-set-same (b .ports) (port - 1) _ emptyPort (omega (arith, t .ready .low, t .ready .high, h .setup-lawful .ports-most, h .records))
+
+-- so it announces the frame's clock, at the held hop by H of the state before the call
+pub taken-announced : (b : Bridge) (port : ℕ) (frame : List ℕ) (arrival : ℕ) → Lawful b → (e : receiveOf b port frame arrival .answer ≡ 0)
+    → let f = took b port frame arrival e .fields in
+    portAt (receiveOf b port frame arrival .next .ports) (port - 1) .announcement ≡ Announced (f .precedence) (hopOf (f .hop) (chosenHop (chosenOf b))) (record { 0 = arrival })
+taken-announced b port frame arrival h e =
+    let t = took b port frame arrival e in
+    ap (λ (p : Port). p .announcement) (taken-stored b port frame arrival h e)
+    ∙ received-announces (settingAt b (port - 1)) (chosenHop (chosenOf b)) (t .fields) (record { 0 = arrival }) (portAt (b .ports) (port - 1)) (t .done) .0
 
 -- ---- along the calls
 
@@ -169,6 +181,11 @@ module _ (i : ℕ) (P : List (List ℕ) → Port → Type 0)
         (λ _. replaced-holds (port - 1) _ refl refl)
         (λ _. u)
 
-  -- so it holds after any calls since Setup
+  -- so it holds after any calls, from any state in which it holds
+  pub heard-along : (b : Bridge) (cs : List Call) (frames : List (List ℕ)) → i < length (b .ports) → P frames (portAt (b .ports) i)
+      → P (along (takenBy i) b cs frames) (portAt (run b cs .ports) i)
+  heard-along = along-run i (takenBy i) P (λ b c frames l u. after-holds b frames l u c)
+
+  -- and since Setup
   pub heard-run : (s : Setup) (cs : List Call) → i < mostPorts → P (taken i (setupOf s .next) cs) (portAt (run (setupOf s .next) cs .ports) i)
   heard-run s cs h = record-run i (takenBy i) P (λ b c frames l u. after-holds b frames l u c) s cs [] h empty

@@ -23,7 +23,6 @@ use Rattle.frame.specs.declared.Reading.the-variants as Readings
 use Rattle.port.specs.Receive.{receivedOf}
 use Rattle.port.specs.declared.Setting.{Setting}
 use Rattle.port.specs.declared.Port.{Port}
-use Rattle.port.specs.declared.PortDone.{PortDone}
 use Rattle.choice.specs.Choose.{numberOf}
 use Rattle.bridge.specs.Table.{portAt, mostPorts}
 use Rattle.bridge.specs.Arguments.{portRefusal}
@@ -38,7 +37,7 @@ use Rattle.bridge.specs.declared.Bridge.{Bridge}
 use Rattle.bridge.specs.declared.Done.{Done}
 use Rattle.choice.proofs.HopLaws.{hop-rises, hop-within}
 use Rattle.frame.proofs.Trip.{precedence-number, hop-number}
-use Rattle.port.proofs.PortLaws.{aged-is, received-is, received-last-hop, read-in-range}
+use Rattle.port.proofs.PortLaws.{aged-is, received-announces, received-last-hop, read-in-range}
 use Rattle.bridge.proofs.StateLaws.{receive-read, receive-stores, chosen-number}
 use Rattle.bridge.proofs.Records.{eight-records}
 use Rattle.bridge.proofs.Heard.{took, taken-stored, heard-run}
@@ -51,18 +50,17 @@ use Rattle.bridge.proofs.Least.{chosen-announced}
 -- a record that took a frame announces the frame's clock above its hop
 held-above : (frame : List ℕ) (f : Fields) (setting : Setting) (chosen : ℕ) (at : LocalTime) (port : Port) → Bytes frame → readOf frame ≡ Readings.Frame f
     → receivedOf setting chosen f at port .answer ≡ 0 → HeldAbove frame (receivedOf setting chosen f at port .port .announcement)
-held-above frame f setting chosen at port bytes read =
-    received-is setting chosen f at port (λ (d : PortDone). d .answer ≡ 0 → HeldAbove frame (d .port .announcement))
-    (λ k l _ e. absurd (omega arith))
-    (λ count p delay other _ _. record {
+held-above frame f setting chosen at port bytes read e =
+    let announces = received-announces setting chosen f at port e in
+    record {
       fields = f;
       read = read;
       held = hopOf (f .hop) chosen;
       heardAt = at;
-      announced = refl;
+      announced = announces .0;
       rises = subst (λ (n : ℕ). n < hopOf (f .hop) chosen) (hop-number frame f read) (hop-rises (f .hop) chosen);
-      within = hop-within (f .hop) chosen (omega (arith, read-in-range frame f bytes read .typed .hop, other));
-    })
+      within = hop-within (f .hop) chosen (omega (arith, read-in-range frame f bytes read .typed .hop, announces .1));
+    }
 
 -- every frame that is taken is held above its hop, and at the last at most
 pub taken-rises : (b : Bridge) (port : ℕ) (frame : List ℕ) (arrival : ℕ) → Lawful b → Bytes frame → receiveOf b port frame arrival .answer ≡ 0

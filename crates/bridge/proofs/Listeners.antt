@@ -25,7 +25,6 @@ use Rattle.frame.specs.declared.Reading.the-variants as Readings
 use Rattle.port.specs.Send.{sendingBy, clockSending, sendingNo, listenerHop}
 use Rattle.port.specs.declared.Profile.the-variants.{Full, Listener}
 use Rattle.port.specs.declared.Port.{Port}
-use Rattle.port.specs.declared.PortDone.{PortDone}
 use Rattle.port.specs.declared.Sending.the-variants.{Refused}
 use Rattle.bridge.specs.Table.{portAt, mostPorts, samplesAt, samplesOfChoice}
 use Rattle.bridge.specs.Arguments.{portRefusal, sendRefusal}
@@ -42,7 +41,7 @@ use Rattle.bridge.specs.declared.Done.{Done}
 use Rattle.numbers.proofs.Branches.{if-when, if-both}
 use Rattle.samples.proofs.KeepLaws.{Still, still-few, ends-few}
 use Rattle.choice.proofs.WorstLaws.{worst-only}
-use Rattle.port.proofs.PortLaws.{send-as, received-is}
+use Rattle.port.proofs.PortLaws.{send-as}
 use Rattle.port.proofs.Order.{frame-order}
 use Rattle.port.proofs.ListenerLaws.{listener-hop, received-still, aged-still}
 use Rattle.bridge.proofs.CheckLaws.{send-is}
@@ -54,7 +53,7 @@ use Rattle.bridge.proofs.StateLaws.{receive-read}
 use Rattle.bridge.proofs.Numbered.{candidates-fit}
 use Rattle.bridge.proofs.Least.{chosen-least}
 use Rattle.bridge.proofs.Sent.{listener-frame-read}
-use Rattle.bridge.proofs.Heard.{took, taken-stored, heard-run}
+use Rattle.bridge.proofs.Heard.{took, taken-announced, heard-run}
 
 -- ---- a listener
 
@@ -137,12 +136,8 @@ module _ (b : Bridge) (port : ℕ) (frame : List ℕ) (arrival : ℕ) (from : Fr
       let same : t .fields ≡ from .fields = cc in
       let hop : t .fields .hop ≡ listenerHop = ap (λ (f : Fields). f .hop) same ∙ from .hop in
       let precedence : t .fields .precedence ≡ worstPrecedence = ap (λ (f : Fields). f .precedence) same ∙ from .precedence in
-      ap (λ (p : Port). p .announcement) (taken-stored b port frame arrival lawful e)
-      ∙ received-is (settingAt b (port - 1)) (chosenHop (chosenOf b)) (t .fields) (record { 0 = arrival }) (portAt (b .ports) (port - 1))
-      (λ (d : PortDone). d .answer ≡ 0 → d .port .announcement ≡ Announced worstPrecedence lastHop (record { 0 = arrival }))
-      (λ k l _ z. absurd (omega arith))
-      (λ _ _ _ _ _ _. λ i. Announced (precedence i) ((ap (λ (h : ℕ). hopOf h (chosenHop (chosenOf b))) hop ∙ listener-hop (chosenHop (chosenOf b))) i) (record { 0 = arrival }))
-      (t .done)
+      taken-announced b port frame arrival lawful e
+      ∙ (λ i. Announced (precedence i) ((ap (λ (h : ℕ). hopOf h (chosenHop (chosenOf b))) hop ∙ listener-hop (chosenHop (chosenOf b))) i) (record { 0 = arrival }))
 
 -- a clock of the worst precedence is chosen only where no clock of another precedence is a candidate
 pub worst-chosen : (b : Bridge) → Lawful b → {h n : ℕ} → chosenOf b ≡ Clock worstPrecedence h n → {p : Precedence} {k j : ℕ} → List·Memᴰ (Clock p k j) (candidates b) → p ≡ worstPrecedence

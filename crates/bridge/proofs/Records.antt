@@ -108,7 +108,7 @@ setup-ports s =
     leb-true _ _ (both-hold (leb (s .n) mostPorts) _ (both-hold (leb 1 (s .n)) _ ranges .1) .0))
     (λ _. lit≤ tt)
 
-run-alike : (b : Bridge) (cs : List Call) → Alike b (run b cs)
+pub run-alike : (b : Bridge) (cs : List Call) → Alike b (run b cs)
 unfolding run
 run-alike b [] = (refl, refl)
 run-alike b (c ∷ cs) =
@@ -140,7 +140,7 @@ eight-ports s cs = subst (λ (x : Setup). x .n ≤ mostPorts) (sym (run-alike (s
 -- what every call keeps, of the record at index i and of what is reckoned along the calls, holds after any of them
 module _ {A : Type 0} (i : ℕ) (step : Bridge → Call → A → A) (Holds : A → Port → Type 0)
     (kept : (b : Bridge) (c : Call) (x : A) → i < length (b .ports) → Holds x (portAt (b .ports) i) → Holds (step b c x) (portAt (after b c .ports) i)) where
-  along-run : (b : Bridge) (cs : List Call) (x : A) → i < length (b .ports) → Holds x (portAt (b .ports) i) → Holds (along step b cs x) (portAt (run b cs .ports) i)
+  pub along-run : (b : Bridge) (cs : List Call) (x : A) → i < length (b .ports) → Holds x (portAt (b .ports) i) → Holds (along step b cs x) (portAt (run b cs .ports) i)
   unfolding run along
   along-run b [] x l h = h
   along-run b (c ∷ cs) x l h = along-run (after b c) cs (step b c x) (rw (after-alike b c .1) l) (kept b c x l h)

@@ -149,6 +149,14 @@ module _ (setting : Setting) (chosen : ℕ) (f : Fields) (at : LocalTime) (port 
           (λ _. delayed n (linkDelayOf (setting .delay) (neighbourRateOf (port .pair) (f .local) p) (f .local) p (f .tx) (f .rx)) count p e)
           (λ _. refuse 8 (omega arith) (omega arith))
 
+-- a record that took a frame announces the frame's clock at the held hop; and no frame with the last hop is taken
+pub received-announces : (setting : Setting) (chosen : ℕ) (f : Fields) (at : LocalTime) (port : Port) → receivedOf setting chosen f at port .answer ≡ 0
+    → (receivedOf setting chosen f at port .port .announcement ≡ Announced (f .precedence) (hopOf (f .hop) chosen) at) × (f .hop ≡ lastHop → ⊥)
+received-announces setting chosen f at port =
+    received-is setting chosen f at port (λ (d : PortDone). d .answer ≡ 0 → (d .port .announcement ≡ Announced (f .precedence) (hopOf (f .hop) chosen) at) × (f .hop ≡ lastHop → ⊥))
+    (λ k l _ e. absurd (omega arith))
+    (λ _ _ _ below _ _. (refl, below))
+
 -- the next frameCount of a port stays, whatever it hears and however it ages
 pub received-count : (setting : Setting) (chosen : ℕ) (f : Fields) (at : LocalTime) (port : Port) → receivedOf setting chosen f at port .port .count ≡ port .count
 received-count setting chosen f at port = received-is setting chosen f at port (λ (r : PortDone). r .port .count ≡ port .count) (λ _ _ _. refl) (λ _ _ _ _ _. refl)

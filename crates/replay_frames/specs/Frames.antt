@@ -1,4 +1,4 @@
--- The lines of replay over frames alone, F, W and B: the fields that a line gives, and what is printed.
+-- The lines of replay over frames alone, F, W and B, and H over a hop: the fields that a line gives, and what is printed.
 use Prim.Native.Nat.{ℕ}
 use mathlib.Core.Bool.{cond}
 use mathlib.Core.List.{List, [], _∷_}
@@ -7,6 +7,7 @@ use lib.Dec.{eqb}
 use Rattle.refusals.specs.Refusals.{done}
 use Rattle.numbers.specs.Bytes.{numberAt}
 use Rattle.times.specs.declared.ErrorTime.{ErrorTime}
+use Rattle.choice.specs.Passes.{passesOf}
 use Rattle.choice.specs.declared.Precedence.{Precedence}
 use Rattle.frame.specs.Read.{readOf}
 use Rattle.frame.specs.Write.{writeRefusal, writtenOf}
@@ -23,7 +24,7 @@ use Rattle.forms.specs.Field.{mostLength}
 use Rattle.forms.specs.Form.{numberIn}
 use Rattle.forms.specs.Value.{byteIn, sizeIn}
 use Rattle.forms.specs.declared.Form.{Form}
-use Rattle.replay_grammar.specs.Row.{letterF, letterW, letterB}
+use Rattle.replay_grammar.specs.Row.{letterF, letterW, letterB, letterH}
 use Rattle.replay_times.specs.Times.{timesText}
 
 -- ---- arguments: S and W have an address and a precedence first among their bytes, W then an errorTime
@@ -96,10 +97,15 @@ pieceOf Second a b = take precedenceBytes (drop precedenceStart b)
 unfoldable pub betterText : List ℕ → List ℕ → List ℕ
 betterText a b = bytesLine (pieceOf (winnerOf (standingOf a) (standingOf b)) a b)
 
+-- the passes left at a hop
+abbrev pub passesText : ℕ → List ℕ
+passesText hop = line1 (passesOf hop)
+
 -- the letter's call, and then the lines of times
 unfoldable pub plainText : ℕ → Form → List ℕ
 plainText letter f =
     cond (eqb letter letterF) (readText (readOf (take (sizeIn f 0) (f .bytes))))
     (cond (eqb letter letterW) (writeText (fieldsIn f) (untouched (sizeIn f 10)))
     (cond (eqb letter letterB) (betterText (take (sizeIn f 0) (f .bytes)) (take (sizeIn f 1) (drop (sizeIn f 0) (f .bytes))))
-    (timesText letter f)))
+    (cond (eqb letter letterH) (passesText (byteIn f 0))
+    (timesText letter f))))

@@ -1,13 +1,13 @@
-// The lines of replay over frames alone. Above each stands the line; its fields are counted from 0, the first after the letter. No bridge is known here.
+// The lines of replay over frames alone, and over a hop. Above each stands the line; its fields are counted from 0, the first after the letter. No bridge is known here.
 ghost use mathlib.Core.Path.{_≡_};
 ghost use Prim.Native.Nat.{_≤_};
 ghost use lib.ListN.{length, take, drop};
 ghost use Rattle.frame.specs.Read.{readOf};
 ghost use Rattle.forms.specs.Field.{mostLength};
 ghost use Rattle.forms.specs.Form.{bufferBytes};
-ghost use Rattle.forms.specs.Value.{sizeIn};
+ghost use Rattle.forms.specs.Value.{byteIn, sizeIn};
 ghost use Rattle.columns.specs.Columns.{longestAnswer, Prints};
-ghost use Rattle.replay_frames.specs.Frames.{macFrom, precedenceFrom, errorIn, fieldsIn, untouched, fieldValues, readText, writeText, betterText, plainText};
+ghost use Rattle.replay_frames.specs.Frames.{macFrom, precedenceFrom, errorIn, fieldsIn, untouched, fieldValues, readText, writeText, betterText, passesText, plainText};
 use choice::Precedence;
 use columns::BYTE;
 use columns::CHARACTER;
@@ -217,7 +217,15 @@ fn better(form: Form, out: &mut [u8]) -> usize
     columns::only_bytes(out, frame_better::better(&all[..n], &all[n..end]))
 }
 
-// What is printed for the letter of a plain line, with what its fields say: of a frame's, or else of the lines of times.
+// `H hop`.
+fn passes(form: Form, out: &mut [u8]) -> usize
+    requires { ⌜ longestAnswer ≤ length (now out) ⌝ }
+    ensures { λ r. ⌜ Prints (passesText (byteIn form 0)) r (now (out .entry)) (now (out .exit)) ⌝ }
+{
+    columns::one(out, choice_passes::passes_left(value::byte(form, 0)))
+}
+
+// What is printed for the letter of a plain line, with what its fields say: of a frame's or a hop's, or else of the lines of times.
 pub fn asked(letter: u8, form: Form, out: &mut [u8]) -> usize
     requires { ⌜ length (form .bytes) ≡ bufferBytes ⌝ }
     requires { ⌜ longestAnswer ≤ length (now out) ⌝ }
@@ -227,6 +235,7 @@ pub fn asked(letter: u8, form: Form, out: &mut [u8]) -> usize
         b'F' => read(form, out),
         b'W' => write(form, out),
         b'B' => better(form, out),
+        b'H' => passes(form, out),
         _ => replay_times::asked(letter, form, out),
     }
 }

@@ -50,6 +50,9 @@ letterE = 69
 abbrev pub letterK : ℕ
 letterK = 75
 
+abbrev pub letterH : ℕ
+letterH = 72
+
 abbrev pub letterX : ℕ
 letterX = 88
 
@@ -80,18 +83,19 @@ LEAP = EXACTLY + 2
 
 -- ---- rows
 
--- of a plain line, one whose call needs no bridge: F, W, B, X, I, G, U, N; nothing follows C, nor a letter that no call has
+-- of a plain line, one whose call needs no bridge: F, W, B, H, X, I, G, U, N; nothing follows C, nor a letter that no call has
 unfoldable pub plainRow : ℕ → List ℕ
 plainRow letter =
     cond (eqb letter letterF) (row (BYTES ∷ []))
     (cond (eqb letter letterW) (row (ADDRESS ∷ PRECEDENCE ∷ BYTE ∷ BYTE ∷ NUMBER ∷ NUMBER ∷ NUMBER ∷ NUMBER ∷ NUMBER ∷ ERROR ∷ LENGTH ∷ []))
     (cond (eqb letter letterB) (row (BYTES ∷ BYTES ∷ []))
+    (cond (eqb letter letterH) (row (BYTE ∷ []))
     (cond (eqb letter letterX) (row (NUMBER ∷ NUMBER ∷ []))
     (cond (eqb letter letterI) (row (NUMBER ∷ NUMBER ∷ []))
     (cond (eqb letter letterG) (row (NUMBER ∷ []))
     (cond (eqb letter letterU) (row (NUMBER ∷ LEAP ∷ []))
     (cond (eqb letter letterN) (row (NUMBER ∷ LEAP ∷ []))
-    (row []))))))))
+    (row [])))))))))
 
 -- of Setup, whatever the profile
 abbrev pub setupRow : List ℕ

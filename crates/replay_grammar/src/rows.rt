@@ -50,6 +50,7 @@ fn plain_row(letter: u8) -> [u8; 17]
             END,
         ],
         b'B' => kind::row(BYTES, BYTES, END, END),
+        b'H' => kind::row(BYTE, END, END, END),
         b'X' => kind::row(NUMBER, NUMBER, END, END),
         b'I' => kind::row(NUMBER, NUMBER, END, END),
         b'G' => kind::row(NUMBER, END, END, END),

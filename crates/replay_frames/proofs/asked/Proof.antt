@@ -5,13 +5,13 @@ use Rattle.replay_frames.specs.Frames.{plainText}
 use Rattle.replay_frames.proofs.asked.Statement.{statement}
 use Rattle.replay_frames.proofs.asked.Tie as tie
 
--- none of the letters of a frame's lines
-rest : tie.Need-returns-4
+-- none of the letters of these lines
+rest : tie.Need-returns-5
 unfolding plainText
 rest c =
     let a = c .before .before in
     let n = a .before .before .match .rest in
-    rw (ne-eqb _ _ (n .0 .0 .1), ne-eqb _ _ (n .0 .1), ne-eqb _ _ (n .1)) (a .asked .ensures)
+    rw (ne-eqb _ _ (n .0 .0 .0 .1), ne-eqb _ _ (n .0 .0 .1), ne-eqb _ _ (n .0 .1), ne-eqb _ _ (n .1)) (a .asked .ensures)
 
 pub asked-spec : {M : Type 1} → statement M
 unfolding plainText
@@ -22,11 +22,14 @@ asked-spec =
     (λ c κs. search needs)
     (λ c κs. search needs)
     (λ c κs. search needs)
+    (λ c κs. search needs)
     (λ c. search needs)
     (λ c. rw (c .before .before .before .before .match .keys1) (c .before .before .read .ensures))
     (λ c. search needs)
     (λ c. rw (c .before .before .before .before .match .keys2) (c .before .before .write .ensures))
     (λ c. search needs)
     (λ c. rw (c .before .before .before .before .match .keys3) (c .before .before .better .ensures))
+    (λ c. search needs)
+    (λ c. rw (c .before .before .before .before .match .keys4) (c .before .before .passes .ensures))
     (λ c. search needs)
     rest)

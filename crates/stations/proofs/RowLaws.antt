@@ -1,0 +1,130 @@
+-- HOW MANY STATIONS TAKE A FRAME: with the premise no more than the passes left at its hop, so nine at the most; without it no more than the hops left up to the last.
+use mathlib.Core.Path.{_≡_, refl, sym, ap, _∙_, subst}
+use mathlib.Core.List.{List, [], _∷_}
+use mathlib.Core.Logic.{_⊎_, inl, inr, ⊎-elim}
+use Prim.Native.Nat.{ℕ, suc, _-_, _<_, _≤_}
+use native.Mathlib.Omega.{arith}
+use lib.ListN.{length}
+use Rattle.choice.specs.Hop.{lastHop, hopOf}
+use Rattle.choice.specs.Passes.{passesOf}
+use Rattle.choice.specs.Choose.{chosenHop, numberOf}
+use Rattle.choice.specs.declared.Precedence.{Precedence}
+use Rattle.choice.specs.declared.Announcement.{Announcement}
+use Rattle.choice.specs.declared.Announcement.the-variants.{Silent, Announced}
+use Rattle.choice.specs.declared.Candidate.{Candidate}
+use Rattle.choice.specs.declared.Candidate.the-variants.{Nothing, Clock}
+use Rattle.frame.specs.declared.Fields.{Fields}
+use Rattle.port.specs.declared.Port.{Port}
+use Rattle.bridge.specs.Table.{portAt}
+use Rattle.bridge.specs.State.{Lawful, FullBridge}
+use Rattle.bridge.specs.Chosen.{chosenOf}
+use Rattle.bridge.specs.Demands.{Call, receive, taken, hopAt}
+use Rattle.bridge.specs.declared.Bridge.{Bridge}
+use Rattle.bridge.specs.declared.Setup.{Setup}
+use Rattle.choice.proofs.HopLaws.{hop-jump, hop-rises}
+use Rattle.choice.proofs.PassesLaws.{passes-step, passes-most}
+use Rattle.frame.proofs.Trip.{hop-number}
+use Rattle.port.proofs.PortLaws.{aged-is, received-announces, read-in-range}
+use Rattle.bridge.proofs.Records.{run-alike, after-alike}
+use Rattle.bridge.proofs.Keeps.{receive-lawful, run-lawful}
+use Rattle.bridge.proofs.Heard.{took, taken-announced, heard-along}
+use Rattle.bridge.proofs.Least.{chosen-announced}
+use Rattle.bridge.proofs.Sent.{sent-frame-read}
+use Rattle.stations.specs.Row.{Takes, afterIt, later, SendsOn, Row, last, next, ChosenBelow, AnyStation, mostStations, hopsLeft}
+
+-- ---- one station
+
+-- H: the held hop of the clock that is chosen before the frame is taken
+abbrev hopBefore : {frame : List ℕ} → Takes frame → ℕ
+hopBefore s = chosenHop (chosenOf (s .station))
+
+module _ {frame : List ℕ} (s : Takes frame) where
+  -- a frame that is taken has not the last hop
+  taken-below : hopAt frame < lastHop
+  taken-below =
+      let t = took (s .station) (s .port) frame (s .arrival) (s .accepted) in
+      omega (arith, received-announces _ _ (t .fields) _ _ (t .done) .1, read-in-range frame (t .fields) (s .bytes) (t .read) .typed .hop, hop-number frame (t .fields) (t .read))
+
+  -- what the port announces of it
+  announced : (p : Precedence) × (portAt (afterIt s .ports) (s .port - 1) .announcement ≡ Announced p (hopOf (hopAt frame) (hopBefore s)) (record { 0 = s .arrival }))
+  announced =
+      let t = took (s .station) (s .port) frame (s .arrival) (s .accepted) in
+      (t .fields .precedence,
+      taken-announced (s .station) (s .port) frame (s .arrival) (s .lawful) (s .accepted)
+      ∙ ap (λ (h : ℕ). Announced (t .fields .precedence) (hopOf h (hopBefore s)) (record { 0 = s .arrival })) (hop-number frame (t .fields) (t .read)))
+
+  -- the port is one of the station's
+  port-within : (0 < s .port) × (s .port - 1 < length (afterIt s .ports))
+  port-within =
+      let r = took (s .station) (s .port) frame (s .arrival) (s .accepted) .ready in
+      let all = after-alike (s .station) (receive (s .port) frame (s .bytes) (s .arrival)) .1 in
+      (omega (arith, r .low), omega (arith, r .low, r .high, s .lawful .setup-lawful .ports-most, s .lawful .records, all))
+
+  -- whatever is called later, the state is lawful and a full bridge's
+  later-lawful : (calls : List Call) → Lawful (later s calls)
+  later-lawful calls = run-lawful (afterIt s) calls (receive-lawful (s .station) (s .port) frame (s .arrival) (s .bytes) (s .lawful))
+
+  later-full : (calls : List Call) → FullBridge (later s calls)
+  later-full calls =
+      ap (λ (x : Setup). x .sender .profile) (run-alike (afterIt s) calls .0 ∙ after-alike (s .station) (receive (s .port) frame (s .bytes) (s .arrival)) .0) ∙ s .full
+
+  -- and as long as the port takes no other frame, it announces this one or nothing
+  still-announced : (calls : List Call) → taken (s .port - 1) (afterIt s) calls ≡ []
+      → let announcement = portAt (later s calls .ports) (s .port - 1) .announcement in
+      (announcement ≡ Silent) ⊎ (announcement ≡ Announced (announced .0) (hopOf (hopAt frame) (hopBefore s)) (record { 0 = s .arrival }))
+  still-announced calls =
+      let A : Announcement = Announced (announced .0) (hopOf (hopAt frame) (hopBefore s)) (record { 0 = s .arrival }) in
+      let P : List (List ℕ) → Port → Type 0 = λ (frames : List (List ℕ)) (p : Port). frames ≡ [] → (p .announcement ≡ Silent) ⊎ (p .announcement ≡ A) in
+      heard-along (s .port - 1) P
+      (λ frames p q e _ u none. subst (λ (x : Announcement). (x ≡ Silent) ⊎ (x ≡ A)) (sym e) (u none))
+      (λ _. inl refl)
+      (λ frames at timeout p u. aged-is at timeout p (P frames) u (λ _. inl refl))
+      (λ frames frame f setting chosen at p _ _ _ _ none. absurd (omega (arith, ap (λ (l : List (List ℕ)). length l) none)))
+      (afterIt s) calls [] (port-within .1) (λ _. inr (announced .1))
+
+  -- WHAT IT SENDS ON has the held hop of the frame that it took
+  pub sent-on-hop : {sent : List ℕ} → SendsOn s sent → hopAt sent ≡ hopOf (hopAt frame) (hopBefore s)
+  sent-on-hop {sent} o =
+      let b = later s (o .calls) in
+      let r = sent-frame-read b (o .port) (o .departure) (o .output) (later-lawful (o .calls)) (o .done) (later-full (o .calls)) in
+      let number : r .number ≡ suc (s .port - 1) = omega (arith, ap numberOf (r .chosen), o .that-clock, port-within .0) in
+      let heard = chosen-announced b (r .chosen ∙ ap (Clock (r .precedence) (r .hop)) number) .1 in
+      let held : r .hop ≡ hopOf (hopAt frame) (hopBefore s) = ⊎-elim
+      (λ silent. let clash : _≡_ {A = ℕ} 0 1 = cc in absurd (omega arith))
+      (λ same. let both = sym heard ∙ same in cc)
+      (still-announced (o .calls) (o .no-other)) in
+      ap hopAt (o .written) ∙ sym (hop-number _ _ (r .read)) ∙ held
+
+-- ---- stations in a row
+
+-- where something falls at each station that meets the premise, there are no more stations than it says of the first frame's hop
+module _ (Premise : Bridge → List ℕ → Type 0) (left : ℕ → ℕ)
+    (falls : (frame : List ℕ) (s : Takes frame) → Premise (s .station) frame → left (hopOf (hopAt frame) (hopBefore s)) < left (hopAt frame)) where
+  row-within : (frame : List ℕ) (n : ℕ) → Row Premise frame n → n ≤ left (hopAt frame)
+  row-within _ _ (last frame s p) = omega (arith, falls frame s p)
+  row-within _ _ (next frame sent n s p o rest) = omega (arith, falls frame s p, row-within sent n rest, ap left (sent-on-hop s o))
+
+-- the passes left fall where the chosen hop is below the frame's
+passes-fall : (frame : List ℕ) (s : Takes frame) → ChosenBelow (s .station) frame → passesOf (hopOf (hopAt frame) (hopBefore s)) < passesOf (hopAt frame)
+passes-fall frame s below =
+    omega (arith, passes-step (hopAt frame) (taken-below s), ap passesOf (hop-jump (hopAt frame) (hopBefore s) below))
+
+-- the hops left fall at any station
+hops-fall : (frame : List ℕ) (s : Takes frame) → AnyStation (s .station) frame → hopsLeft (hopOf (hopAt frame) (hopBefore s)) < hopsLeft (hopAt frame)
+hops-fall frame s _ = omega (arith, hop-rises (hopAt frame) (hopBefore s), taken-below s)
+
+-- WITH THE PREMISE: no more stations than passes left at the frame's hop
+pub row-passes : (frame : List ℕ) (n : ℕ) → Row ChosenBelow frame n → n ≤ passesOf (hopAt frame)
+row-passes = row-within ChosenBelow passesOf passes-fall
+
+-- so nine at the most, whatever frame it is and whichever stations
+pub at-most-nine : (frame : List ℕ) (n : ℕ) → Row ChosenBelow frame n → n ≤ mostStations
+at-most-nine frame n row = omega (arith, row-passes frame n row, passes-most (hopAt frame) (first-within row))
+  where
+    first-within : {frame : List ℕ} {n : ℕ} → Row ChosenBelow frame n → hopAt frame ≤ lastHop
+    first-within (last _ s _) = omega (arith, taken-below s)
+    first-within (next _ _ _ s _ _ _) = omega (arith, taken-below s)
+
+-- WITHOUT IT: no more than hops left up to the last
+pub row-hops : (frame : List ℕ) (n : ℕ) → Row AnyStation frame n → n ≤ hopsLeft (hopAt frame)
+row-hops = row-within AnyStation hopsLeft hops-fall
