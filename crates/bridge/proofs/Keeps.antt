@@ -24,7 +24,7 @@ use Rattle.port.specs.declared.Port.{Port}
 use Rattle.port.specs.declared.OwnClock.{OwnClock}
 use Rattle.bridge.specs.Table.{each, portAt, mostPorts, relinkedPort}
 use Rattle.bridge.specs.Arguments.{bit, portRefusal, sendRefusal, ownClockRefusal, maskBeyond}
-use Rattle.bridge.specs.Fits.{leastTimeout, greatestTimeout, delaysFit, listenerPorts, rangesFit, profileFits, setupFits, noSetup}
+use Rattle.bridge.specs.Fits.{leastTimeout, greatestTimeout, delaysFit, listenerPorts, rangesFit, profileFits, setupFits, plainSetup, noSetup}
 use Rattle.bridge.specs.declared.Setup.{Setup}
 use Rattle.bridge.specs.State.{TypedSetup, ListenerSetup, LawfulSetup, Lawful, withPort, withLinks, withClock}
 use Rattle.bridge.specs.Setup.{freshOf, setupOf}
@@ -97,15 +97,19 @@ fresh-lawful s h = record {
   ports-lawful = λ i. rw (fresh-record mostPorts i) empty-lawful;
 }
 
--- the setup of no ports
+-- the plainest setups
+pub plain-typed : (n timeout back : ℕ) → TypedSetup (plainSetup n timeout back)
+plain-typed n timeout back = record {
+  settings-all = refl;
+  address = record { byte0 = lit< tt; byte1 = lit< tt; byte2 = lit< tt; byte3 = lit< tt; byte4 = lit< tt; byte5 = lit< tt };
+  own-fits = record { priority1 = lit< tt; source = lit< tt; variance = lit< tt; priority2 = lit< tt; clock = lit< tt };
+}
+
+-- that of no ports
 none-lawful : LawfulSetup noSetup
 unfolding delaysFit
 none-lawful = record {
-  typed = record {
-    settings-all = refl;
-    address = record { byte0 = lit< tt; byte1 = lit< tt; byte2 = lit< tt; byte3 = lit< tt; byte4 = lit< tt; byte5 = lit< tt };
-    own-fits = record { priority1 = lit< tt; source = lit< tt; variance = lit< tt; priority2 = lit< tt; clock = lit< tt };
-  };
+  typed = plain-typed 0 0 0;
   ports-most = lit≤ tt;
   timeout-most = lit≤ tt;
   back-small = lit< tt;

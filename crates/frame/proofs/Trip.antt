@@ -19,7 +19,7 @@ use Rattle.frame.specs.Demands.{Typed}
 use Rattle.frame.specs.declared.Fields.{Fields}
 use Rattle.frame.specs.declared.Reading.the-variants.{Frame}
 use Rattle.numbers.proofs.Places.{number-add, onto-append, onto-split, length-digits, value-digits}
-use Rattle.numbers.proofs.Table.{held-at, held-parted, length-joined, joined-append, joined-parted, parted-joined, drop-joined}
+use Rattle.numbers.proofs.Table.{held-at, held-parted, length-joined, joined-bytes, joined-append, joined-parted, parted-joined, drop-joined}
 use Rattle.frame.proofs.FrameLaws.{Accepted, accepted, by-rows, framed, reading, Written, in-range, unrefused, filled}
 
 -- ---- read, then written
@@ -115,7 +115,12 @@ pub hop-number : (s : List ℕ) (f : Fields) → readOf s ≡ Frame f → f .hop
 unfolding parted
 hop-number s f e = ap (λ (g : Fields). g .hop) (sym (reading s f e .1))
 
--- ---- where a written frame has its grand time, its hopCount and its frameCount
+-- ---- what a written frame is made of, and where it has its grand time, its hopCount and its frameCount
+
+-- bytes, where what follows it is
+pub frame-bytes : (f : Fields) (t : List ℕ) → Bytes t → Bytes (bytesOf f t)
+unfolding bytesOf
+frame-bytes f t b = joined-bytes widths (valuesOf f) t b
 
 -- the rows from k on, in the bytes of a frame
 rows-from : (f : Fields) (t : List ℕ) (k : ℕ) → k ≤ 24 → drop (total (take k widths)) (bytesOf f t) ≡ joined (drop k widths) (drop k (valuesOf f)) t

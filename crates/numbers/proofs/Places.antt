@@ -47,6 +47,20 @@ put-step out rest (suc k) h l =
 pub bytes-drop : (s : List ℕ) (a : ℕ) → Bytes s → Bytes (drop a s)
 bytes-drop s a b i = rw getD-drop (b (a + i))
 
+pub bytes-append : (s t : List ℕ) → Bytes s → Bytes t → Bytes (s ++ t)
+bytes-append [] t a b i = b i
+bytes-append (x ∷ s) t a b zero = a 0
+bytes-append (x ∷ s) t a b (suc i) = bytes-append s t (λ j. a (suc j)) b i
+
+-- what a number is written as is bytes
+pub digits-bytes : (n v : ℕ) → Bytes (numberBytes n v)
+digits-bytes zero v = λ _. lit< tt
+digits-bytes (suc n) v = bytes-append (numberBytes n (v / 256)) (v % 256 ∷ []) (digits-bytes n (v / 256)) one
+  where
+    one : Bytes (v % 256 ∷ [])
+    one zero = omega arith
+    one (suc i) = lit< tt
+
 pub onto-append : (v : ℕ) (xs ys : List ℕ) → onto v (xs ++ ys) ≡ onto (onto v xs) ys
 onto-append v [] ys = refl
 onto-append v (x ∷ xs) ys = onto-append (v * 256 + x) xs ys

@@ -9,7 +9,7 @@ use lib.ListN.{length, take, drop, getD, set, length-append, length-drop}
 use lib.Seq.{drop-cons, take-append-le, take-take, take-add, drop-drop, take-at, drop-at, length-take-le}
 use Rattle.numbers.specs.Bytes.{numberAt, numberBytes, spliced, Bytes}
 use Rattle.numbers.specs.Table.{total, parted, joined, Held}
-use Rattle.numbers.proofs.Places.{bytes-drop, put-next, length-digits, value-digits, digits-value, number-at-small}
+use Rattle.numbers.proofs.Places.{bytes-drop, bytes-append, digits-bytes, put-next, length-digits, value-digits, digits-value, number-at-small}
 
 -- ---- one row, from the end
 
@@ -96,6 +96,13 @@ length-joined [] [] t h = omega arith
 length-joined [] (v ∷ vs) t h = absurd h
 length-joined (w ∷ ws) [] t h = absurd h
 length-joined (w ∷ ws) (v ∷ vs) t h = omega (arith, length-append (numberBytes w v) (joined ws vs t), length-digits w v, length-joined ws vs t (h .1))
+
+-- numbers put together are bytes
+pub joined-bytes : (ws vs t : List ℕ) → Bytes t → Bytes (joined ws vs t)
+unfolding joined
+joined-bytes [] vs t b = b
+joined-bytes (w ∷ ws) [] t b = b
+joined-bytes (w ∷ ws) (v ∷ vs) t b = bytes-append (numberBytes w v) (joined ws vs t) (digits-bytes w v) (joined-bytes ws vs t b)
 
 -- what is put after the table's bytes comes after them
 pub joined-append : (ws vs t : List ℕ) → joined ws vs t ≡ joined ws vs [] ++ t

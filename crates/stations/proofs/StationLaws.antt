@@ -30,7 +30,7 @@ use Rattle.bridge.proofs.Keeps.{receive-lawful, run-lawful}
 use Rattle.bridge.proofs.Heard.{took, taken-announced, heard-along}
 use Rattle.bridge.proofs.Least.{chosen-announced}
 use Rattle.bridge.proofs.Sent.{sent-frame-read}
-use Rattle.stations.specs.Row.{Takes, afterIt, later, SendsOn, Row, last, next, ChosenBelow, AnyStation, mostStations, hopsLeft}
+use Rattle.stations.specs.Stations.{Takes, afterIt, later, SendsOn, Row, last, next, ChosenBelow, AnyStation, mostStations, hopsLeft}
 
 -- ---- one station
 
