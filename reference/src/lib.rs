@@ -15,6 +15,7 @@ pub mod port;
 pub mod program;
 pub mod ptp;
 pub mod replay;
+pub mod ring;
 pub mod rules;
 pub mod samples;
 pub mod stamps;

@@ -6,6 +6,7 @@ use crate::frame::{self, Fields, MAC_LEN, PRECEDENCE_LEN};
 use crate::hex::{self, GRAND_DIGITS, LOCAL_DIGITS, NANOSECONDS_DIGITS, SECONDS_DIGITS};
 use crate::program::Program;
 use crate::ptp::{self, Scale, Timestamp};
+use crate::rules;
 use crate::times::grand;
 
 /// The longest line that can have the form, the one with two of the longest byte fields.
@@ -174,6 +175,7 @@ impl<C: Calls> Replay<C> {
             b"F" => read(rest, out),
             b"W" => write(rest, out),
             b"B" => better(rest, out),
+            b"H" => passes_left(rest, out),
             b"X" => export(rest, out),
             b"I" => import(rest, out),
             b"G" => gps(rest, out),
@@ -396,6 +398,14 @@ fn better(mut rest: Rest, out: &mut Vec<u8>) -> Option<()> {
     let second = rest.bytes(&mut two)?;
     rest.end()?;
     hex::put_bytes(out, frame::better(first, second));
+    Some(())
+}
+
+/// Prints the passes left at a hop.
+fn passes_left(mut rest: Rest, out: &mut Vec<u8>) -> Option<()> {
+    let hop = rest.byte()?;
+    rest.end()?;
+    hex::put_byte(out, rules::passes_left(hop));
     Some(())
 }
 

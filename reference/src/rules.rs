@@ -83,6 +83,14 @@ pub fn held_hop(chosen_hop: u8, hop: u8) -> u8 {
     }
 }
 
+/// Gives the passes left at a hop: 0 at 255, otherwise 1 more than the least k such that 2^k is no less than the way left to 255.
+pub fn passes_left(hop: u8) -> u8 {
+    match u16::from(HOP_NONE - hop) {
+        0 => 0,
+        way_left => 1 + way_left.next_power_of_two().ilog2() as u8,
+    }
+}
+
 /// Gives the rate between two samples of grand time and local time.
 pub fn sample_rate(older: (u128, u64), newer: (u128, u64)) -> i128 {
     let local_spread = spread(newer.1, older.1);

@@ -10,7 +10,7 @@ use crate::bridge::{
 use crate::byvalue::{Flat, Handed};
 use crate::frame::{self, Fields, FRAME_LEN, PRECEDENCE_WORST};
 use crate::listing::Listing;
-use crate::lives::census::{Census, RankingCensus, TimestampCensus};
+use crate::lives::census::{Census, PassesCensus, RankingCensus, TimestampCensus};
 use crate::lives::latches;
 use crate::lives::limits;
 use crate::lives::listener_census::ListenerCensus;
@@ -23,13 +23,14 @@ use crate::program::Program;
 use crate::ptp::{export, import, on_scale, Scale, NANOSECONDS_END, SECONDS_END};
 use crate::replay::Replay;
 use crate::rules::{
-    held_hop, link_delay, parts_per_million, rate, rated, sent_grand, steady, DELAY_MOST, HOP_LAST,
-    HOP_NONE, RATE_ONE, SPREAD_LEAST, SPREAD_MOST, STEADINESS,
+    held_hop, link_delay, parts_per_million, passes_left, rate, rated, sent_grand, steady,
+    DELAY_MOST, HOP_LAST, HOP_NONE, RATE_ONE, SPREAD_LEAST, SPREAD_MOST, STEADINESS,
 };
 use crate::samples::{Sample, Samples};
 use crate::stamps::Stamps;
 use crate::times::{distance, moved, next_count, spread, GRAND_END, LOCAL_END, PART_END};
 use std::collections::HashSet;
+use std::iter;
 
 const SECOND: u128 = 1 << 40;
 /// The greatest distance that is stamped, by document 02's figure.
@@ -122,6 +123,54 @@ fn hops_rise_at_every_station() {
             let farthest = if hop > chosen { left } else { 0 };
             assert!(step == 1 || 2 * step <= farthest);
             assert!(2 * (step + 1) > farthest);
+        }
+    }
+}
+
+/// Gives the passes left at a hop by the rule: none at 255, otherwise one more than at the hop that the larger step leads to.
+fn passes_by_steps(hop: u8) -> u8 {
+    if hop == HOP_NONE {
+        return 0;
+    }
+    let larger_step = ((HOP_NONE - hop) / 2).max(1);
+    1 + passes_by_steps(hop + larger_step)
+}
+
+/// At every hop the passes left are those of the rule.
+#[test]
+fn passes_are_those_of_the_rule() {
+    for hop in 0..=HOP_NONE {
+        assert_eq!(passes_left(hop), passes_by_steps(hop));
+    }
+}
+
+/// The passes left change where the way left is a power of two, from nine at hop 0 to none at 255.
+#[test]
+fn passes_change_at_powers_of_two() {
+    for (first, last, passes) in [
+        (0, 126, 9),
+        (127, 190, 8),
+        (191, 222, 7),
+        (223, 238, 6),
+        (239, 246, 5),
+        (247, 250, 4),
+        (251, 252, 3),
+        (253, 253, 2),
+        (254, 254, 1),
+        (255, 255, 0),
+    ] {
+        assert!((first..=last).all(|hop| passes_left(hop) == passes));
+    }
+}
+
+/// A frame that goes from station to station, each with a chosen hop below the frame's own, is taken as often as its hop has passes left.
+#[test]
+fn frames_are_taken_as_often_as_they_have_passes() {
+    for first in 1..=HOP_NONE {
+        for chosen in 0..first {
+            let held = |hop: &u8| (*hop != HOP_NONE).then(|| held_hop(chosen, *hop));
+            let stations = iter::successors(held(&first), held).count();
+            assert_eq!(stations, usize::from(passes_left(first)));
         }
     }
 }
@@ -1063,6 +1112,64 @@ fn census_misses_places() {
     assert!(!missing.contains(&String::from("beyond after lost")));
     assert!(missing.contains(&String::from("chosen after lost")));
     assert!(missing.contains(&String::from("tied")));
+}
+
+/// A line of a hop has one number below 256, prints the passes left at it, needs no setup and leaves the bridge as it was.
+#[test]
+fn lines_of_passes_have_their_form() {
+    let mut bridge = linked(2, Some(9));
+    hear(&mut bridge, 2, 1, 0);
+    let answer = |line: &str| {
+        let printed = asked(&bridge, line);
+        assert_eq!(answered(line), printed);
+        printed
+    };
+    assert_eq!(answer("H 0"), "09");
+    assert_eq!(answer("H 7E"), "09");
+    assert_eq!(answer("H 7F"), "08");
+    assert_eq!(answer("H 80"), "08");
+    assert_eq!(answer("H FE"), "01");
+    assert_eq!(answer("H FF"), "00");
+    assert_eq!(answer("H d"), "09");
+    assert_eq!(answer("H fD"), "02");
+    assert_eq!(answer("H 0fb"), "03");
+    assert_eq!(answer("H 00000000000000Fb"), "03");
+    for no_line in [
+        "H",
+        "H ",
+        "H 1 ",
+        "H 1 2",
+        "H  1",
+        " H 1",
+        "h 1",
+        "HH 1",
+        "H1",
+        "H\t1",
+        "H 1\r",
+        "H -",
+        "H -1",
+        "H g",
+        "H 100",
+        "H 0100",
+        "H FFFFFFFFFFFFFFFF",
+        "H 00000000000000001",
+    ] {
+        assert_eq!(answer(no_line), "0E");
+    }
+}
+
+/// The count of passes wants each number of passes and a text that is no line.
+#[test]
+fn census_misses_passes() {
+    let mut census = PassesCensus::default();
+    assert_eq!(census.missing().len(), 11);
+    census.count(b"H 0", b"09");
+    census.count(b"H 100", b"0E");
+    census.count(b"HH 0", b"0E");
+    census.count(b"A 0", b"00");
+    assert_eq!(census.missing().len(), 9);
+    assert!(!census.missing().contains(&"09"));
+    assert!(census.missing().contains(&"00"));
 }
 
 /// A plan that a listener is set up by.

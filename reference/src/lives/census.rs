@@ -1,4 +1,4 @@
-//! Counts how often each call gave each answer, how the frames that were taken came by their held hops, which way rates were rounded, what places of the ranking showed, what listeners did and how they were heard, and where scales left their range.
+//! Counts how often each call gave each answer, how the frames that were taken came by their held hops, which way rates were rounded, what places of the ranking showed, which numbers of passes left were printed, what listeners did and how they were heard, and where scales left their range.
 
 use super::latches;
 use super::limits;
@@ -116,11 +116,7 @@ impl HopCensus {
 
     /// Gives the ways that were never seen.
     fn missing(&self) -> Vec<&str> {
-        WAYS.into_iter()
-            .zip(self.counts)
-            .filter(|(_, count)| *count == 0)
-            .map(|(way, _)| way)
-            .collect()
+        uncounted(&WAYS, &self.counts)
     }
 }
 
@@ -404,6 +400,42 @@ fn is_tied(ranking: &[Chosen], place: usize) -> bool {
     ties(place.checked_sub(1)) || ties(place.checked_add(1))
 }
 
+/// What lines of passes left should print at the least: each number of passes that there is, and that it is no line.
+const PASSES: [&str; 11] = [
+    "00", "01", "02", "03", "04", "05", "06", "07", "08", "09", "0E",
+];
+
+/// Counts of what lines of passes left printed.
+#[derive(Default)]
+pub struct PassesCensus {
+    counts: [u64; PASSES.len()],
+}
+
+impl PassesCensus {
+    /// Counts a line with its answer, where its first field is H, though it may have no form.
+    pub fn count(&mut self, line: &[u8], reply: &[u8]) {
+        if line.split(|letter| *letter == b' ').next() != Some(b"H") {
+            return;
+        }
+        if let Some(place) = PASSES.iter().position(|known| known.as_bytes() == reply) {
+            self.counts[place] += 1;
+        }
+    }
+
+    /// Gives what was never printed.
+    pub fn missing(&self) -> Vec<&str> {
+        uncounted(&PASSES, &self.counts)
+    }
+}
+
+impl fmt::Display for PassesCensus {
+    /// Prints a row with a column for each answer.
+    fn fmt(&self, out: &mut fmt::Formatter) -> fmt::Result {
+        put_counts(out, "H", &PASSES, &self.counts)?;
+        writeln!(out, "passes missing {:?}", self.missing())
+    }
+}
+
 /// The letters of the lines of timestamps and scales.
 const TIMESTAMP_LETTERS: [u8; 5] = *b"XIGUN";
 /// What each of them should answer at the least.
@@ -483,6 +515,16 @@ impl fmt::Display for TimestampCensus {
     }
 }
 
+/// Gives the names whose counts are zero.
+fn uncounted<'a>(names: &[&'a str], counts: &[u64]) -> Vec<&'a str> {
+    names
+        .iter()
+        .zip(counts)
+        .filter(|(_, count)| **count == 0)
+        .map(|(name, _)| *name)
+        .collect()
+}
+
 /// Prints a row of counts, each after its name.
 pub(super) fn put_counts(
     out: &mut fmt::Formatter,
@@ -526,6 +568,7 @@ pub struct Census {
     hops: HopCensus,
     rates: RateCensus,
     ranking: RankingCensus,
+    passes: PassesCensus,
     listeners: ListenerCensus,
     timestamps: TimestampCensus,
 }
@@ -537,6 +580,7 @@ impl Census {
         self.hops.count(line, reply, bridge);
         self.rates.count(line, reply, bridge);
         self.ranking.count(line, reply, bridge);
+        self.passes.count(line, reply);
         self.listeners.count(line, reply, bridge);
         self.timestamps.count(line, reply);
         if reply == b"0E" {
@@ -582,6 +626,7 @@ impl Census {
             && self.hops.missing().is_empty()
             && self.rates.missing().is_empty()
             && self.ranking.missing().is_empty()
+            && self.passes.missing().is_empty()
             && self.listeners.missing().is_empty()
             && self.timestamps.missing().is_empty()
             && self.stamps.counts[NOWHERE][usize::from(OUT_OF_RANGE)] > 0
@@ -612,7 +657,7 @@ impl fmt::Display for Census {
         writeln!(out, "B    part {}, none {}", self.parts, self.no_parts)?;
         writeln!(out, "D    readings {}", self.readings)?;
         write!(out, "{}{}{}", self.hops, self.rates, self.ranking)?;
-        write!(out, "{}", self.listeners)?;
+        write!(out, "{}{}", self.passes, self.listeners)?;
         writeln!(out, "no call (14) {}", self.bad)?;
         writeln!(out, "lines {}", self.lines)?;
         writeln!(out, "answers missing {:?}", self.missing())

@@ -3,6 +3,7 @@
 use super::latches;
 use super::limits::{any_local, any_part, first_where, followed};
 use super::panel;
+use super::passes;
 use super::pen::Pen;
 use super::plans;
 use super::random::Random;
@@ -301,7 +302,7 @@ pub fn wander(pen: &mut Pen) {
 pub fn any_call(pen: &mut Pen) {
     let port = any_port(pen);
     let time = any_local(&mut pen.random);
-    match pen.random.below(14) {
+    match pen.random.below(15) {
         0 => {
             let beyond = 1_u64 << pen.bridge().ports.len();
             let chance = pen.random.bits() >> pen.random.below(9);
@@ -334,6 +335,7 @@ pub fn any_call(pen: &mut Pen) {
             pen.stamp(time);
         }
         11 => timestamps::ask(pen),
+        12 => passes::ask(pen),
         _ => play_frames(pen),
     }
 }

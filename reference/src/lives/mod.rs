@@ -11,6 +11,7 @@ pub mod listener_census;
 mod listeners;
 mod network;
 mod panel;
+mod passes;
 mod pen;
 mod plans;
 pub(crate) mod random;

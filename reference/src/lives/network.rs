@@ -4,6 +4,7 @@ use super::clocks::{self, Clock};
 use super::extras;
 use super::limits;
 use super::panel;
+use super::passes;
 use super::pen::Pen;
 use super::plans;
 use super::random::Random;
@@ -268,7 +269,7 @@ impl Network {
             65..=89 => extras::edge_stamp(pen),
             90..=94 => panel::look(pen),
             95..=98 => timestamps::ask(pen),
-            _ => {}
+            _ => passes::ask(pen),
         }
     }
 

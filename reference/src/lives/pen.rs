@@ -20,8 +20,8 @@ const SPOILED_SETUPS: u64 = 500;
 const SPOILED_TIMESTAMPS: u64 = 60;
 /// In a thousand lines with leap seconds, how many are led by a copy with these changed.
 const SPOILED_LEAPS: u64 = 60;
-/// In a thousand lines of places, how many are led by a copy with the place changed.
-const SPOILED_PLACES: u64 = 30;
+/// In a thousand lines whose only field is a place or a hop, how many are led by a copy with it changed.
+const SPOILED_BYTES: u64 = 30;
 /// In a thousand numbers, how many are written with zeros before them.
 const PADDED: u64 = 40;
 /// In a thousand fields, how many are written with small letters.
@@ -257,10 +257,20 @@ impl<'s> Pen<'s> {
 
     /// Writes a question for the candidate at a place of the ranking.
     pub fn ranked(&mut self, place: u8) -> Answer {
-        self.letter(b'K');
-        self.number(u64::from(place));
-        if self.random.often(SPOILED_PLACES) {
-            self.lead(spoil::place);
+        self.ask_byte(b'K', place)
+    }
+
+    /// Writes a question for the passes left at a hop.
+    pub fn passes_left(&mut self, hop: u8) -> Answer {
+        self.ask_byte(b'H', hop)
+    }
+
+    /// Writes a question whose only field is a byte, perhaps after a copy with it changed.
+    fn ask_byte(&mut self, letter: u8, byte: u8) -> Answer {
+        self.letter(letter);
+        self.number(u64::from(byte));
+        if self.random.often(SPOILED_BYTES) {
+            self.lead(spoil::byte);
         }
         self.play()
     }

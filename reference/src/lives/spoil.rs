@@ -15,7 +15,7 @@ const NONSENSE_LONG: u64 = 70_000;
 /// What a line may wrongly contain.
 const STRANGE: &[u8] = b"\0\t\r gGmM-dDxX0fF+.#\x0B\x7F\x80\xC3\xFF";
 /// The letters of the calls and some others.
-const LETTERS: &[u8] = b"SPLORACTDFWBslpxZEM1-XIGUNKk";
+const LETTERS: &[u8] = b"SPLORACTDFWBslpxZEM1-XIGUNKkHh";
 
 /// Spoils a line, though not always so that it loses its form.
 pub fn line(random: &mut Random, line: &mut Vec<u8>) {
@@ -93,8 +93,8 @@ pub fn leap_seconds(random: &mut Random, line: &mut Vec<u8>) {
     replace_field(line, 2, random.pick(&words));
 }
 
-/// Changes the place of a line, mostly so that it is no byte.
-pub fn place(random: &mut Random, line: &mut Vec<u8>) {
+/// Changes the first field of a line, mostly so that it is no byte.
+pub fn byte(random: &mut Random, line: &mut Vec<u8>) {
     let words: [&[u8]; 14] = [
         b"",
         b"-",
