@@ -1,22 +1,21 @@
 -- Laws of the passes left: they are the one function of the rule; they are those of the formula; and a table that passes the test has them, and no other does.
 use mathlib.Core.Path.{_≡_, refl, sym, ap, _∙_, subst}
-use mathlib.Core.Bool.{Bool, true, false, cond, _&&_}
+use mathlib.Core.Bool.{true, false}
 use mathlib.Core.List.{List, [], _∷_}
 use mathlib.Core.Logic.{⊎-elim}
 use Prim.Native.Nat.{ℕ, zero, suc, _+_, _-_, _*_, _^_, _<_, _≤_}
 use native.Mathlib.Nat.{le-antisymm, eq-or-lt-of-le, pow-suc}
 use native.Mathlib.Numerals.{add-one}
 use native.Mathlib.Omega.{arith}
-use borrow.Author.Tests.{eq-eqb, ne-eqb, eqb-true, eqb-false}
+use borrow.Author.Tests.{eq-eqb, ne-eqb, eqb-true}
 use lib.Dec.{eqb}
 use lib.ListN.{length, drop, getD, drop-of-length-le}
 use lib.Seq.{drop-cons}
-use lib.Pow.{pow-pos}
 use Rattle.numbers.proofs.Branches.{if-true, if-false}
 use Rattle.times.proofs.TestLaws.{both-hold}
 use Rattle.choice.specs.Hop.{lastHop, jumpOf}
 use Rattle.choice.specs.Passes.{PassesRule, passesWithin, passesOf, LeastPower, ByFormula, hops, PassesTable, staircase, agreesFrom, agreesOf}
-use Rattle.choice.proofs.HopLaws.{jump-rises, jump-within, jump-half}
+use Rattle.choice.proofs.HopLaws.{jump-rises, jump-within}
 
 -- ---- the rule
 
@@ -81,8 +80,8 @@ passes-only passes rule h l = rule-within passes rule lastHop h l (omega arith)
 -- ---- the formula
 
 -- two least numbers are one
-pub least-one : (g k j : ℕ) → LeastPower g k → LeastPower g j → k ≡ j
-least-one g k j a b = le-antisymm (a .least j (b .reaches)) (b .least k (a .reaches))
+pub least-power-one : (g k j : ℕ) → LeastPower g k → LeastPower g j → k ≡ j
+least-power-one g k j a b = le-antisymm (a .least j (b .reaches)) (b .least k (a .reaches))
 
 -- where one hop is left, 2^0 reaches it
 one-left : LeastPower 1 0

@@ -1,5 +1,5 @@
 -- NINE IS REACHED: a row of nine stations with the premise; and without it there is one of ten, where ten hops are left. By computation.
-use mathlib.Core.Path.{_≡_, refl, sym, ap, _∙_, subst}
+use mathlib.Core.Path.{_≡_, refl, sym, ap}
 use mathlib.Core.List.{List, [], _∷_}
 use Prim.Native.Nat.{ℕ, suc, _<_}
 use native.Mathlib.Omega.{arith}
@@ -30,13 +30,13 @@ use Rattle.bridge.specs.State.{Lawful, FullBridge}
 use Rattle.bridge.specs.Receive.{receiveFieldsOf, receiveOf}
 use Rattle.bridge.specs.Chosen.{chosenOf}
 use Rattle.bridge.specs.Send.{sendingAt, sendOf, sendBytes}
-use Rattle.bridge.specs.Demands.{Call, links, receive, run, along, hopAt}
+use Rattle.bridge.specs.Demands.{Call, links, receive, run, along}
 use Rattle.bridge.specs.declared.Bridge.{Bridge}
 use Rattle.frame.proofs.Trip.{frame-bytes, hop-byte}
 use Rattle.bridge.proofs.Keeps.{plain-typed, setup-lawful, run-lawful}
 use Rattle.bridge.proofs.Records.{full-stays}
 use Rattle.stations.specs.Stations.{Takes, SendsOn, Row, last, next, ChosenBelow, AnyStation, mostStations, hopsLeft}
-use Rattle.stations.specs.NineStations.{apart, fieldsWith, passing, linked, heard, station, arrives, output}
+use Rattle.stations.specs.NineStations.{apart, fieldsWith, passing, heard, station, arrives, output}
 
 -- the empty list is bytes, and so are the frames
 none : Bytes []

@@ -1,6 +1,6 @@
 -- HOW MANY STATIONS TAKE A FRAME: with the premise no more than the passes left at its hop, so nine at the most; without it no more than the hops left up to the last.
 use mathlib.Core.Path.{_≡_, refl, sym, ap, _∙_, subst}
-use mathlib.Core.List.{List, [], _∷_}
+use mathlib.Core.List.{List, []}
 use mathlib.Core.Logic.{_⊎_, inl, inr, ⊎-elim}
 use Prim.Native.Nat.{ℕ, suc, _-_, _<_, _≤_}
 use native.Mathlib.Omega.{arith}
@@ -11,9 +11,7 @@ use Rattle.choice.specs.Choose.{chosenHop, numberOf}
 use Rattle.choice.specs.declared.Precedence.{Precedence}
 use Rattle.choice.specs.declared.Announcement.{Announcement}
 use Rattle.choice.specs.declared.Announcement.the-variants.{Silent, Announced}
-use Rattle.choice.specs.declared.Candidate.{Candidate}
-use Rattle.choice.specs.declared.Candidate.the-variants.{Nothing, Clock}
-use Rattle.frame.specs.declared.Fields.{Fields}
+use Rattle.choice.specs.declared.Candidate.the-variants.{Clock}
 use Rattle.port.specs.declared.Port.{Port}
 use Rattle.bridge.specs.Table.{portAt}
 use Rattle.bridge.specs.State.{Lawful, FullBridge}
@@ -48,10 +46,11 @@ module _ {frame : List ℕ} (s : Takes frame) where
   -- what the port announces of it
   announced : (p : Precedence) × (portAt (afterIt s .ports) (s .port - 1) .announcement ≡ Announced p (hopOf (hopAt frame) (hopBefore s)) (record { 0 = s .arrival }))
   announced =
-      let t = took (s .station) (s .port) frame (s .arrival) (s .accepted) in
-      (t .fields .precedence,
-      taken-announced (s .station) (s .port) frame (s .arrival) (s .lawful) (s .accepted)
-      ∙ ap (λ (h : ℕ). Announced (t .fields .precedence) (hopOf h (hopBefore s)) (record { 0 = s .arrival })) (hop-number frame (t .fields) (t .read)))
+      let t = took (s .station) (s .port) frame (s .arrival) (s .accepted) in (
+        t .fields .precedence,
+        taken-announced (s .station) (s .port) frame (s .arrival) (s .lawful) (s .accepted)
+            ∙ ap (λ (h : ℕ). Announced (t .fields .precedence) (hopOf h (hopBefore s)) (record { 0 = s .arrival })) (hop-number frame (t .fields) (t .read)),
+      )
 
   -- the port is one of the station's
   port-within : (0 < s .port) × (s .port - 1 < length (afterIt s .ports))
