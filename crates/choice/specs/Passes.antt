@@ -46,7 +46,7 @@ pub record PassesTable (table : List ℕ) : Type 0 where
   pub every-hop : length table ≡ hops
   pub entry : (h : ℕ) → h < hops → getD table h 0 ≡ passesOf h
 
--- that table: each step of the staircase is half as long as the one before it
+-- that table, a staircase: a step of 127 hops, one of 64, then each half as long as the one before it, and three of a single hop at the end
 unfoldable pub staircase : List ℕ
 staircase =
     replicate 127 9

@@ -33,10 +33,11 @@ fieldsWith hop count fraction local = record {
 abbrev pub passing : ℕ → List ℕ
 passing hop = bytesOf (fieldsWith hop 0 apart apart) []
 
--- a station of two ports that heard two frames of that clock at port 1, at a hop: the first is refused with 8, the second is its first sample
+-- a station of two ports, both with a link
 abbrev pub linked : Bridge
 linked = linksOf (setupOf (plainSetup 2 defaultTimeout 0) .next) 3 .next
 
+-- that heard two frames of the clock at port 1, at a hop: the first is refused with 8, the second gives its first sample
 abbrev pub heard : ℕ → ℕ → List ℕ
 heard hop count = bytesOf (fieldsWith hop count 0 0) []
 
