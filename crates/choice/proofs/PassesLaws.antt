@@ -138,6 +138,16 @@ formula-within (suc n) h l p =
 pub passes-formula : (h : ℕ) → h ≤ lastHop → ByFormula (lastHop - h) (passesOf h)
 passes-formula h l = formula-within lastHop h l (omega arith)
 
+-- at a greater hop there are no more passes left: fewer hops want no greater power
+pub passes-order : (h k : ℕ) → h ≤ k → k ≤ lastHop → passesOf k ≤ passesOf h
+passes-order h k l top = ⊎-elim (λ last. omega (arith, ap passesOf last ∙ passes-last)) some (eq-or-lt-of-le top)
+  where
+    some : k < lastHop → passesOf k ≤ passesOf h
+    some below =
+        let there = passes-formula k top .some-left (omega (arith, below)) in
+        let here = passes-formula h (omega (arith, l, top)) .some-left (omega (arith, l, below)) in
+        omega (arith, there .2, here .2, there .1 .least (here .0) (omega (arith, here .1 .reaches, l)))
+
 -- ---- where the passes end
 
 -- no hop has more than nine: 255 hops are fewer than 2^8
@@ -199,6 +209,10 @@ pub agreement-test : (table : List ℕ) → PassesTable table → agreesOf table
 unfolding agreesOf
 agreement-test table a =
     rw (eq-eqb (length table) hops (a .every-hop), to-test table 0 (λ i l. a .entry i (omega (arith, a .every-hop, l)) ∙ ap passesOf (omega arith)))
+
+-- and it agrees with the formula too
+pub table-formula : (table : List ℕ) → PassesTable table → (h : ℕ) → h < hops → ByFormula (lastHop - h) (getD table h 0)
+table-formula table t h l = subst (ByFormula (lastHop - h)) (sym (t .entry h l)) (passes-formula h (omega (arith, l)))
 
 -- the staircase passes it
 pub staircase-table : PassesTable staircase

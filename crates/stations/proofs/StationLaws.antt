@@ -1,10 +1,14 @@
--- HOW MANY STATIONS TAKE A FRAME: with the premise no more than the passes left at its hop, so nine at the most; without it no more than the hops left up to the last.
+-- HOW MANY STATIONS TAKE A FRAME: with the premise no more than the passes left at its hop, so nine at the most; without it no more than the hops left up to the last, and of these no more than nine jump.
 use mathlib.Core.Path.{_≡_, refl, sym, ap, _∙_, subst}
+use mathlib.Core.Bool.{Bool, true, false}
 use mathlib.Core.List.{List, []}
 use mathlib.Core.Logic.{_⊎_, inl, inr, ⊎-elim}
-use Prim.Native.Nat.{ℕ, suc, _-_, _<_, _≤_}
+use Prim.Native.Nat.{ℕ, suc, _+_, _-_, _<_, _≤_}
 use native.Mathlib.Omega.{arith}
+use borrow.Author.Tests.{ltb-true}
+use lib.Dec.{ltb}
 use lib.ListN.{length}
+use Rattle.refusals.specs.Literals.{tested}
 use Rattle.choice.specs.Hop.{lastHop, hopOf}
 use Rattle.choice.specs.Passes.{passesOf}
 use Rattle.choice.specs.Choose.{chosenHop, numberOf}
@@ -19,8 +23,8 @@ use Rattle.bridge.specs.Chosen.{chosenOf}
 use Rattle.bridge.specs.Demands.{Call, receive, taken, hopAt}
 use Rattle.bridge.specs.declared.Bridge.{Bridge}
 use Rattle.bridge.specs.declared.Setup.{Setup}
-use Rattle.choice.proofs.HopLaws.{hop-jump, hop-rises}
-use Rattle.choice.proofs.PassesLaws.{passes-step, passes-most}
+use Rattle.choice.proofs.HopLaws.{hop-jump, hop-rises, hop-within}
+use Rattle.choice.proofs.PassesLaws.{passes-step, passes-order, passes-most}
 use Rattle.frame.proofs.Trip.{hop-number}
 use Rattle.port.proofs.PortLaws.{aged-is, received-announces, read-in-range}
 use Rattle.bridge.proofs.Records.{run-alike, after-alike}
@@ -28,7 +32,7 @@ use Rattle.bridge.proofs.Keeps.{receive-lawful, run-lawful}
 use Rattle.bridge.proofs.Heard.{took, taken-announced, heard-along}
 use Rattle.bridge.proofs.Least.{chosen-announced}
 use Rattle.bridge.proofs.Sent.{sent-frame-read}
-use Rattle.stations.specs.Stations.{Takes, afterIt, later, SendsOn, Row, last, next, ChosenBelow, AnyStation, mostStations, hopsLeft}
+use Rattle.stations.specs.Stations.{Takes, afterIt, later, SendsOn, Row, last, next, ChosenBelow, AnyStation, jumpsIn, mostStations, hopsLeft}
 
 -- ---- one station
 
@@ -96,6 +100,11 @@ module _ {frame : List ℕ} (s : Takes frame) where
 
 -- ---- stations in a row
 
+-- the first frame of a row was taken, so it has not the last hop
+row-first : {Premise : Bridge → List ℕ → Type 0} (frame : List ℕ) (n : ℕ) → Row Premise frame n → hopAt frame ≤ lastHop
+row-first _ _ (last frame s _) = omega (arith, taken-below s)
+row-first _ _ (next frame _ _ s _ _ _) = omega (arith, taken-below s)
+
 -- where something falls at each station that meets the premise, there are no more stations than it says of the first frame's hop
 module _ (Premise : Bridge → List ℕ → Type 0) (left : ℕ → ℕ)
     (falls : (frame : List ℕ) (s : Takes frame) → Premise (s .station) frame → left (hopOf (hopAt frame) (hopBefore s)) < left (hopAt frame)) where
@@ -118,12 +127,31 @@ row-passes = row-within ChosenBelow passesOf passes-fall
 
 -- so nine at the most, whatever frame it is and whichever stations
 pub at-most-nine : (frame : List ℕ) (n : ℕ) → Row ChosenBelow frame n → n ≤ mostStations
-at-most-nine frame n row = omega (arith, row-passes frame n row, passes-most (hopAt frame) (first-within row))
-  where
-    first-within : {frame : List ℕ} {n : ℕ} → Row ChosenBelow frame n → hopAt frame ≤ lastHop
-    first-within (last _ s _) = omega (arith, taken-below s)
-    first-within (next _ _ _ s _ _ _) = omega (arith, taken-below s)
+at-most-nine frame n row = omega (arith, row-passes frame n row, passes-most (hopAt frame) (row-first frame n row))
 
 -- WITHOUT IT: no more than hops left up to the last
 pub row-hops : (frame : List ℕ) (n : ℕ) → Row AnyStation frame n → n ≤ hopsLeft (hopAt frame)
 row-hops = row-within AnyStation hopsLeft hops-fall
+
+-- ---- jumps in any row
+
+-- a station uses up a pass where the hop jumps, and where it makes a single step there are no more than before
+pass-used : (frame : List ℕ) (s : Takes frame)
+    → tested (ltb (hopBefore s) (hopAt frame)) + passesOf (hopOf (hopAt frame) (hopBefore s)) ≤ passesOf (hopAt frame)
+pass-used frame s = by (ltb (hopBefore s) (hopAt frame)) refl
+  where
+    by : (t : Bool) → ltb (hopBefore s) (hopAt frame) ≡ t → tested t + passesOf (hopOf (hopAt frame) (hopBefore s)) ≤ passesOf (hopAt frame)
+    by true e = omega (arith, passes-fall frame s (ltb-true _ _ e))
+    by false e =
+        let rises = hop-rises (hopAt frame) (hopBefore s) in
+        omega (arith, passes-order (hopAt frame) _ (omega (arith, rises)) (hop-within (hopAt frame) (hopBefore s) (taken-below s)))
+
+-- IN ANY ROW, however long, no more stations jump than passes are left at the first frame's hop
+pub row-jumps : (frame : List ℕ) (n : ℕ) (row : Row AnyStation frame n) → jumpsIn frame n row ≤ passesOf (hopAt frame)
+unfolding jumpsIn
+row-jumps _ _ (last frame s _) = omega (arith, pass-used frame s)
+row-jumps _ _ (next frame sent n s _ o rest) = omega (arith, pass-used frame s, row-jumps sent n rest, ap passesOf (sent-on-hop s o))
+
+-- so nine at the most: every other station of the row makes a single step
+pub at-most-nine-jumps : (frame : List ℕ) (n : ℕ) (row : Row AnyStation frame n) → jumpsIn frame n row ≤ mostStations
+at-most-nine-jumps frame n row = omega (arith, row-jumps frame n row, passes-most (hopAt frame) (row-first frame n row))

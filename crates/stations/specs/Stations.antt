@@ -1,9 +1,11 @@
 -- Stations one after another: each takes a frame by Receive, and what it then writes by Send for that clock is the frame that the next one takes.
 use mathlib.Core.Path.{_≡_}
 use mathlib.Core.List.{List, []}
-use Prim.Native.Nat.{ℕ, suc, _-_, _<_}
+use Prim.Native.Nat.{ℕ, suc, _+_, _-_, _<_}
+use lib.Dec.{ltb}
 use lib.ListN.{length, take}
 use Rattle.numbers.specs.Bytes.{Bytes}
+use Rattle.refusals.specs.Literals.{tested}
 use Rattle.choice.specs.Hop.{lastHop}
 use Rattle.choice.specs.Choose.{chosenHop, numberOf}
 use Rattle.frame.specs.Frame.{frameLength}
@@ -58,6 +60,11 @@ ChosenBelow b frame = chosenHop (chosenOf b) < hopAt frame
 -- and none
 abbrev pub AnyStation : Bridge → List ℕ → Type 0
 AnyStation b frame = Unit {0}
+
+-- the stations of any row at which the hop jumps: their chosen hop is below the frame's own
+unfoldable pub jumpsIn : (frame : List ℕ) (n : ℕ) → Row AnyStation frame n → ℕ
+jumpsIn _ _ (last frame s _) = tested (ltb (chosenHop (chosenOf (s .station))) (hopAt frame))
+jumpsIn _ _ (next frame sent n s _ _ rest) = tested (ltb (chosenHop (chosenOf (s .station))) (hopAt frame)) + jumpsIn sent n rest
 
 -- ---- how many
 

@@ -25,6 +25,11 @@ impl Row {
         }
     }
 
+    /// Gives the most stations of the row at which the hop can jump: the passes left at its first hop.
+    fn passes_most(self) -> u32 {
+        u32::from(passes_left(self.first_hop)).min(PASSES_MOST)
+    }
+
     /// Gives the longer of two rows, this one where they are as long.
     fn or_longer(self, other: Row) -> Row {
         if other.length > self.length {
@@ -35,11 +40,13 @@ impl Row {
     }
 }
 
-/// The two rows that a frame stands in: of stations whose chosen hop was below the frame's, and of any stations.
+/// The two rows that a frame stands in: of stations whose chosen hop was below the frame's, and of any stations; and at how many of
+/// the latter the chosen hop was below the frame's, so that the hop jumped.
 #[derive(Clone, Copy, Debug, Default, PartialEq, Eq)]
 pub struct Rows {
     pub premised: Row,
     pub any: Row,
+    pub jumps: u32,
 }
 
 impl Rows {
@@ -52,20 +59,22 @@ impl Rows {
                 Row::default()
             },
             any: self.any.longer(hop),
+            jumps: self.jumps + u32::from(premise),
         }
     }
 
-    /// Gives the longer row of each kind.
+    /// Gives the longer row of each kind, and the greater number of jumps in a row.
     pub fn or_longer(self, other: Rows) -> Rows {
         Rows {
             premised: self.premised.or_longer(other.premised),
             any: self.any.or_longer(other.any),
+            jumps: self.jumps.max(other.jumps),
         }
     }
 
     /// Gives the most stations that the first theorem allows in the row with the premise.
     pub fn premised_most(self) -> u32 {
-        u32::from(passes_left(self.premised.first_hop)).min(PASSES_MOST)
+        self.premised.passes_most()
     }
 
     /// Gives the most stations that the second theorem allows in the row of any stations.
@@ -73,20 +82,25 @@ impl Rows {
         u32::from(HOP_NONE - self.any.first_hop)
     }
 
-    /// Says which row is longer than its theorem allows, if one is.
+    /// Says which row is longer than its theorem allows, or jumps more often, if one does.
     pub fn too_long(self) -> Option<String> {
-        let found = if self.premised.length > self.premised_most() {
-            (self.premised, "with the premise", self.premised_most())
-        } else if self.any.length > self.any_most() {
-            (self.any, "without the premise", self.any_most())
-        } else {
-            return None;
-        };
-        let (row, kind, most) = found;
-        Some(format!(
-            "a row of {} stations {kind} from hop {} on, where at most {most} are allowed",
-            row.length, row.first_hop
-        ))
+        let (with, without) = ("stations with the premise", "stations without the premise");
+        [
+            (
+                self.premised,
+                self.premised.length,
+                with,
+                self.premised_most(),
+            ),
+            (self.any, self.any.length, without, self.any_most()),
+            (self.any, self.jumps, "jumps", self.any.passes_most()),
+        ]
+        .into_iter()
+        .find(|(_, count, _, most)| count > most)
+        .map(|(row, count, what, most)| {
+            let hop = row.first_hop;
+            format!("a row of {count} {what} from hop {hop} on, where at most {most} are allowed")
+        })
     }
 }
 
@@ -106,6 +120,7 @@ mod tests {
                 length: any,
                 first_hop,
             },
+            jumps: premised,
         }
     }
 
@@ -120,6 +135,7 @@ mod tests {
         let next = broken.taken(193, true);
         assert_eq!(next.premised, rows(1, 0, 193).premised);
         assert_eq!(next.any, rows(0, 4, 3).any);
+        assert_eq!(next.jumps, 3);
     }
 
     /// The longer row of each kind is kept, and the first of two that are as long.
@@ -137,6 +153,11 @@ mod tests {
             let most = u32::from(passes_left(hop));
             assert_eq!(rows(most, most, hop).too_long(), None);
             assert!(rows(most + 1, most, hop).too_long().is_some());
+            let jumping = Rows {
+                jumps: most + 1,
+                ..rows(0, most, hop)
+            };
+            assert!(jumping.too_long().is_some());
             let any_most = 255 - u32::from(hop);
             assert_eq!(rows(0, any_most, hop).too_long(), None);
             assert!(rows(0, any_most + 1, hop).too_long().is_some());

@@ -17,8 +17,8 @@ const TIMEOUTS: [u64; 3] = [1 << 38, 1 << 37, 1 << 36];
 const DRAWS: RangeInclusive<u64> = 1..=5;
 /// The names of the columns, and the line below them.
 const HEAD: &str = "\
-| Stations | Ring | Timeout, U | Announced, s: least, median, greatest | Frames taken: the same | With the premise | Longest row with it | Passes left | Longest row | 255 - hop |
-|---|---|---|---|---|---|---|---|---|---|";
+| Stations | Ring | Timeout, U | Announced, s: least, median, greatest | Frames taken: the same | With the premise | Longest row with it | Passes left | Longest row | 255 - hop | Most jumps in a row |
+|---|---|---|---|---|---|---|---|---|---|---|";
 
 /// Plays every ring of the table with every draw, and prints a line for each ring.
 pub fn print(start: Starter, to: &mut impl Write) -> io::Result<()> {
@@ -59,7 +59,7 @@ fn line(ring: &Ring, outcomes: &[Outcome]) -> String {
     let taken = three(outcomes, |outcome| outcome.taken).map(|frames| frames.to_string());
     let rows = longest_rows(outcomes);
     format!(
-        "| {} | {} | {} | {} | {} | {} % | {} | {} | {} | {} |",
+        "| {} | {} | {} | {} | {} | {} % | {} | {} | {} | {} | {} |",
         ring.stations,
         ring.form(),
         ring.timeout_as_power(),
@@ -70,6 +70,7 @@ fn line(ring: &Ring, outcomes: &[Outcome]) -> String {
         rows.premised_most(),
         rows.any.length,
         rows.any_most(),
+        rows.jumps,
     )
 }
 
@@ -134,7 +135,7 @@ mod tests {
         ];
         let text = line(&rings()[0], &outcomes);
         let wanted =
-            "| 3 | closed | 2^39 | 0.50, 1.00, 2.00 | 50, 60, 100 | 33 % | 1 | 8 | 2 | 252 |";
+            "| 3 | closed | 2^39 | 0.50, 1.00, 2.00 | 50, 60, 100 | 33 % | 1 | 8 | 2 | 252 | 1 |";
         assert_eq!(text, wanted);
         let columns = |text: &str| text.matches('|').count();
         assert!(HEAD.lines().all(|head| columns(head) == columns(wanted)));
