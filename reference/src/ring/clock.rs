@@ -8,6 +8,8 @@ pub const SECOND: u64 = 1 << 40;
 /// Ten milliseconds, after which a station does each of its duties again.
 pub const TICK: u64 = 10_995_116_278;
 
+/// The tenths of microseconds in a second.
+const TENTHS_OF_MICROSECONDS: u128 = 10_000_000;
 /// What a rate error of one whole is counted as.
 const RATE_ONE: i128 = 1 << 40;
 /// A rate error of 10 parts in a million.
@@ -43,9 +45,16 @@ pub fn in_seconds(time: u64) -> String {
     format!("{}.{:02}", hundredths / 100, hundredths % 100)
 }
 
+/// Prints a time in microseconds, to the nearest tenth.
+pub fn in_microseconds(time: u64) -> String {
+    let tenths =
+        (u128::from(time) * TENTHS_OF_MICROSECONDS + u128::from(SECOND / 2)) / u128::from(SECOND);
+    format!("{}.{}", tenths / 10, tenths % 10)
+}
+
 #[cfg(test)]
 mod tests {
-    use super::{in_seconds, Clock, RATE_ERROR_MOST, SECOND};
+    use super::{in_microseconds, in_seconds, Clock, RATE_ERROR_MOST, SECOND};
     use crate::lives::random::Random;
     use crate::times::{spread, LOCAL_END};
 
@@ -83,5 +92,13 @@ mod tests {
         assert_eq!(in_seconds(0), "0.00");
         assert_eq!(in_seconds(3 * SECOND + SECOND / 20), "3.05");
         assert_eq!(in_seconds(SECOND - 1), "1.00");
+    }
+
+    /// Microseconds are rounded to the nearest tenth.
+    #[test]
+    fn microseconds_have_tenths() {
+        assert_eq!(in_microseconds(0), "0.0");
+        assert_eq!(in_microseconds(SECOND / 1_000), "1000.0");
+        assert_eq!(in_microseconds(SECOND / 400_000), "2.5");
     }
 }

@@ -72,6 +72,8 @@ pub struct Outcome {
     pub longest: Rows,
     /// How long after the silence the clock was announced.
     pub announced: u64,
+    /// How far the grand time in a frame that the ring's stations sent after the silence was off, at the most.
+    pub off: u64,
     /// The held hops of the chosen clocks, from the start on.
     pub changes: Vec<Change>,
 }
@@ -286,9 +288,18 @@ impl Course {
     fn send(&mut self, port: End) -> io::Result<()> {
         let sent = self.stations[port.station].send(port.port, self.time)?;
         if let (Some(frame), Some((far, delay))) = (sent, self.cabling.across(port)) {
+            self.hold_to_truth(port.station, &frame);
             self.plan(self.time + delay, Event::Arrival { port: far, frame });
         }
         Ok(())
+    }
+
+    /// Notes how far the grand time in a frame of the ring's own is off, once the grand master is silent.
+    fn hold_to_truth(&mut self, station: usize, frame: &Frame) {
+        if self.time >= SILENCE && station != self.ring.master() {
+            let off = frame.grand.abs_diff(grand_at(frame.departed)) as u64;
+            self.outcome.off = self.outcome.off.max(off);
+        }
     }
 
     /// Has a station receive a frame at a port.

@@ -8,8 +8,9 @@ use crate::answer::{
     TOO_FEW_SAMPLES,
 };
 use crate::bridge::OWN;
-use crate::frame::{AT_HOP, FRAME_LEN};
+use crate::frame::{self, Fields, FRAME_LEN};
 use crate::hex;
+use crate::replay::BYTES_MOST;
 use crate::rules::HOP_NONE;
 use crate::times::{next_count, parts};
 use std::fmt;
@@ -37,6 +38,9 @@ pub struct Frame {
     digits: String,
     hop: u8,
     rows: Rows,
+    /// The grand time that it says, and the true time of the departure that this belongs to.
+    pub grand: u128,
+    pub departed: u64,
 }
 
 /// What is known of a frame that a station took.
@@ -47,11 +51,18 @@ pub struct Taken {
     pub rows: Rows,
 }
 
+/// When a frame left, in true time and on the station's clock.
+#[derive(Clone, Copy, Debug)]
+struct Departure {
+    time: u64,
+    local: u64,
+}
+
 /// A port's side of its cable.
 #[derive(Clone, Copy, Debug, Default)]
 struct Port {
-    /// The local time at which the preceding frame left; none where none has since the link came up, or the last send was refused.
-    departed: Option<u64>,
+    /// When the preceding frame left; none where none has since the link came up, or the last send was refused.
+    departed: Option<Departure>,
     /// The rows of the last frame that was taken.
     rows: Rows,
 }
@@ -142,16 +153,17 @@ impl Station {
 
     /// Sends at a port, and gives the frame that leaves, if one does.
     pub fn send(&mut self, port: u8, time: u64) -> io::Result<Option<Frame>> {
-        let now = self.clock.local(time);
+        let local = self.clock.local(time);
+        let now = Departure { time, local };
         let departure = self.port(port).departed.unwrap_or(now);
-        let line = format!("T {port:X} {departure:X} {FRAME_LEN:X}");
+        let line = format!("T {port:X} {:X} {FRAME_LEN:X}", departure.local);
         let (answer, output) = self.call(&line, SEND_ANSWERS)?;
         let sent = answer == DONE;
         self.port(port).departed = sent.then_some(now);
         if !sent {
             return Ok(None);
         }
-        let frame = self.frame_of_chosen(output.clone());
+        let frame = self.frame_of_chosen(output.clone(), departure.time);
         frame.map(Some).ok_or_else(|| self.failure(&line, &output))
     }
 
@@ -168,15 +180,20 @@ impl Station {
 
     /// Gives the frame that a send wrote, if it has the chosen clock's held hop; it goes on with the rows of the chosen port, or
     /// starts them where the clock is the own one.
-    fn frame_of_chosen(&mut self, digits: String) -> Option<Frame> {
+    fn frame_of_chosen(&mut self, digits: String, departed: u64) -> Option<Frame> {
         let chosen = self.chosen?;
         let rows = match chosen.port {
             OWN => Rows::default(),
             port => self.port(port).rows,
         };
-        hop_in(&digits)
-            .filter(|hop| *hop == chosen.hop)
-            .map(|hop| Frame { digits, hop, rows })
+        let Fields { hop, grand, .. } = fields_in(&digits)?;
+        (hop == chosen.hop).then_some(Frame {
+            digits,
+            hop,
+            rows,
+            grand,
+            departed,
+        })
     }
 
     /// Makes a call by its line, and asks for the clock that is chosen after it; gives the answer, which must be one of those
@@ -235,16 +252,15 @@ fn chosen_in(text: &str, ports: usize) -> Option<Option<Chosen>> {
     (usize::from(chosen.port) <= ports).then_some(Some(chosen))
 }
 
-/// Reads the hop in the digits of a frame.
-fn hop_in(digits: &str) -> Option<u8> {
-    let whole = digits.len() == 2 * FRAME_LEN;
-    let hop = digits.as_bytes().get(2 * AT_HOP..2 * AT_HOP + 2)?;
-    hex::byte(hop).filter(|_| whole)
+/// Reads the fields in the digits of a frame.
+fn fields_in(digits: &str) -> Option<Fields> {
+    let mut room = [0; BYTES_MOST];
+    frame::read(hex::bytes(digits.as_bytes(), &mut room)?).ok()
 }
 
 #[cfg(test)]
 mod tests {
-    use super::{chosen_in, hop_in, setup_line, Chosen, Setup};
+    use super::{chosen_in, fields_in, setup_line, Chosen, Setup};
 
     /// A station is set up with the default times, or with the timeout that is given.
     #[test]
@@ -275,12 +291,14 @@ mod tests {
         }
     }
 
-    /// The hop is byte 29 of a whole frame.
+    /// Hop and grand time are read from the digits of a whole frame.
     #[test]
-    fn hops_are_read() {
-        let digits = format!("{}7F{}", "0".repeat(58), "0".repeat(68));
-        assert_eq!(hop_in(&digits), Some(0x7F));
-        assert_eq!(hop_in(&digits[..126]), None);
-        assert_eq!(hop_in("A5"), None);
+    fn frames_are_read() {
+        let head = "0180C200000E02000000000188B50101";
+        let digits = format!("{head}{}7F0000{:020X}{}", "0".repeat(26), 5, "0".repeat(44));
+        let told = |digits: &str| fields_in(digits).map(|fields| (fields.hop, fields.grand));
+        assert_eq!(told(&digits), Some((0x7F, 5)));
+        assert_eq!(told(&digits[..126]), None);
+        assert_eq!(told("A5"), None);
     }
 }

@@ -1,7 +1,7 @@
 //! The table of what became of rings.
 
 use super::cabling::Ring;
-use super::clock::in_seconds;
+use super::clock::{in_microseconds, in_seconds};
 use super::course::{play, Outcome, Starter};
 use super::row::Rows;
 use std::io::{self, Write};
@@ -17,8 +17,8 @@ const TIMEOUTS: [u64; 3] = [1 << 38, 1 << 37, 1 << 36];
 const DRAWS: RangeInclusive<u64> = 1..=5;
 /// The names of the columns, and the line below them.
 const HEAD: &str = "\
-| Stations | Ring | Timeout, U | Announced, s: least, median, greatest | Frames taken: the same | With the premise | Longest row with it | Passes left | Longest row | 255 - hop | Most jumps in a row |
-|---|---|---|---|---|---|---|---|---|---|---|";
+| Stations | Ring | Timeout, U | Announced, s: least, median, greatest | Frames taken: the same | With the premise | Longest row with it | Passes left | Longest row | 255 - hop | Most jumps in a row | Grand time off, µs: least, median, greatest |
+|---|---|---|---|---|---|---|---|---|---|---|---|";
 
 /// Plays every ring of the table with every draw, and prints a line for each ring.
 pub fn print(start: Starter, to: &mut impl Write) -> io::Result<()> {
@@ -57,9 +57,10 @@ fn rings() -> Vec<Ring> {
 fn line(ring: &Ring, outcomes: &[Outcome]) -> String {
     let announced = three(outcomes, |outcome| outcome.announced).map(in_seconds);
     let taken = three(outcomes, |outcome| outcome.taken).map(|frames| frames.to_string());
+    let off = three(outcomes, |outcome| outcome.off).map(in_microseconds);
     let rows = longest_rows(outcomes);
     format!(
-        "| {} | {} | {} | {} | {} | {} % | {} | {} | {} | {} | {} |",
+        "| {} | {} | {} | {} | {} | {} % | {} | {} | {} | {} | {} | {} |",
         ring.stations,
         ring.form(),
         ring.timeout_as_power(),
@@ -71,6 +72,7 @@ fn line(ring: &Ring, outcomes: &[Outcome]) -> String {
         rows.any.length,
         rows.any_most(),
         rows.jumps,
+        off.join(", "),
     )
 }
 
@@ -109,6 +111,7 @@ mod tests {
             premised,
             longest,
             announced,
+            off: SECOND / 1_000_000,
             changes: Vec::new(),
         }
     }
@@ -135,7 +138,7 @@ mod tests {
         ];
         let text = line(&rings()[0], &outcomes);
         let wanted =
-            "| 3 | closed | 2^39 | 0.50, 1.00, 2.00 | 50, 60, 100 | 33 % | 1 | 8 | 2 | 252 | 1 |";
+            "| 3 | closed | 2^39 | 0.50, 1.00, 2.00 | 50, 60, 100 | 33 % | 1 | 8 | 2 | 252 | 1 | 1.0, 1.0, 1.0 |";
         assert_eq!(text, wanted);
         let columns = |text: &str| text.matches('|').count();
         assert!(HEAD.lines().all(|head| columns(head) == columns(wanted)));
