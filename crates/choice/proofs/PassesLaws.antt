@@ -3,7 +3,7 @@ use mathlib.Core.Path.{_≡_, refl, sym, ap, _∙_, subst}
 use mathlib.Core.Bool.{true, false}
 use mathlib.Core.List.{List, [], _∷_}
 use mathlib.Core.Logic.{⊎-elim}
-use Prim.Native.Nat.{ℕ, zero, suc, _+_, _-_, _*_, _^_, _<_, _≤_}
+use Prim.Native.Nat.{ℕ, zero, suc, _+_, _-_, _*_, _^_, _<_, _≤_, zero-le}
 use native.Mathlib.Nat.{le-antisymm, eq-or-lt-of-le, pow-suc}
 use native.Mathlib.Numerals.{add-one}
 use native.Mathlib.Omega.{arith}
@@ -82,6 +82,16 @@ passes-only passes rule h l = rule-within passes rule lastHop h l (omega arith)
 -- two least numbers are one
 pub least-power-one : (g k j : ℕ) → LeastPower g k → LeastPower g j → k ≡ j
 least-power-one g k j a b = le-antisymm (a .least j (b .reaches)) (b .least k (a .reaches))
+
+-- so the formula gives one number
+pub formula-one : (g p q : ℕ) → ByFormula g p → ByFormula g q → p ≡ q
+formula-one g p q a b = ⊎-elim (λ none. a .none-left (sym none) ∙ sym (b .none-left (sym none))) some (eq-or-lt-of-le zero-le)
+  where
+    some : 0 < g → p ≡ q
+    some l =
+        let left = a .some-left l in
+        let right = b .some-left l in
+        omega (arith, left .2, right .2, least-power-one g (left .0) (right .0) (left .1) (right .1))
 
 -- where one hop is left, 2^0 reaches it
 one-left : LeastPower 1 0

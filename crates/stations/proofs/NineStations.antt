@@ -19,6 +19,7 @@ use Rattle.choice.specs.Choose.{rankOf, candidateOf, ownCandidate, betterOf, be
 use Rattle.frame.specs.Frame.{frameLength}
 use Rattle.frame.specs.Read.{readRefusal, readOf}
 use Rattle.frame.specs.Write.{bytesOf}
+use Rattle.port.specs.Record.{agedPort}
 use Rattle.port.specs.Receive.{sameClock, followedBy, receivedOf}
 use Rattle.port.specs.Send.{sendingOf}
 use Rattle.bridge.specs.Arguments.{portRefusal, sendRefusal, maskBeyond}
@@ -28,9 +29,10 @@ use Rattle.bridge.specs.Links.{linksOf}
 use Rattle.bridge.specs.Table.{each, relinkedPort, candidatesFrom, samplesAt, samplesOfChoice}
 use Rattle.bridge.specs.State.{Lawful, FullBridge}
 use Rattle.bridge.specs.Receive.{receiveFieldsOf, receiveOf}
+use Rattle.bridge.specs.Age.{ageOf}
 use Rattle.bridge.specs.Chosen.{chosenOf}
 use Rattle.bridge.specs.Send.{sendingAt, sendOf, sendBytes}
-use Rattle.bridge.specs.Demands.{Call, links, receive, run, along}
+use Rattle.bridge.specs.Demands.{Call, links, receive, age, run, along}
 use Rattle.bridge.specs.declared.Bridge.{Bridge}
 use Rattle.frame.proofs.Trip.{frame-bytes, hop-byte}
 use Rattle.bridge.proofs.Keeps.{plain-typed, setup-lawful, run-lawful}
@@ -54,14 +56,15 @@ station-full : (hop : ℕ) → FullBridge (station hop)
 unfolding run calls
 station-full hop = full-stays (plainSetup 2 defaultTimeout 0) (calls hop) refl
 
--- what a station that heard the clock at one hop makes of the frame at another: what Receive answers, which port's clock is chosen then, what a send at port 2 answers, and its frame
+-- what a station that heard the clock at one hop makes of the frame at another: what Receive answers; and, once it has aged its records, which port's clock is chosen, what a send at port 2 answers, and its frame
 abbrev Outcome : Type 0
 Outcome = ℕ × ℕ × ℕ × List ℕ
 
 abbrev outcome : ℕ → ℕ → Outcome
 outcome before hop =
     let d = receiveOf (station before) 1 (passing hop) arrives in
-    (d .answer, numberOf (chosenOf (d .next)), sendOf (d .next) 2 apart frameLength .answer, take frameLength (sendBytes (d .next) 2 apart output))
+    let b = ageOf (d .next) arrives .next in
+    (d .answer, numberOf (chosenOf b), sendOf b 2 apart frameLength .answer, take frameLength (sendBytes b 2 apart output))
 
 -- it takes the frame, and sends it on at that hop
 abbrev Passed : ℕ → ℕ → ℕ → Type 0
@@ -73,7 +76,7 @@ pub passed : (Passed 0 2 128 × Passed 0 128 191 × Passed 0 191 223 × Passed 0
     × (chosenHop (chosenOf (station 0)) ≡ 1)
 unfolding delayFits delaysFit rangesFit profileFits setupFits setupOf linksOf maskBeyond each relinkedPort portRefusal sendRefusal sendingAt sendOf sendBytes sendingOf bytesOf joined
     receiveOf receiveFieldsOf readOf readRefusal parted chosenOf receivedOf followedBy linkDelayOf measuredOf neighbourRateOf sinceOf hopOf hopStep jumpOf keptOf sameClock precedenceOf chosenHop bestOf betterOf candidateOf ownCandidate candidatesFrom
-    rankOf keyOf sentOf sentTime readingAt momentOf endsOf samplesOfChoice samplesAt gainOf rateOf scaledOf
+    rankOf keyOf sentOf sentTime readingAt momentOf endsOf samplesOfChoice samplesAt gainOf rateOf scaledOf ageOf agedPort
 passed = ((refl, refl, refl, refl, refl, refl, refl, refl, refl), (refl, refl, refl, refl, refl, refl, refl, refl, refl, refl), refl)
 
 -- ---- the rows
@@ -93,7 +96,7 @@ module _ (before hop to : ℕ) (p : Passed before hop to) where
   sends-on : SendsOn takes (passing to)
   unfolding takes run along
   sends-on = record {
-    calls = [];
+    calls = age arrives ∷ [];
     no-other = refl;
     that-clock = ap (λ (o : Outcome). o .1) p;
     port = 2;

@@ -1,11 +1,11 @@
--- HOW MANY STATIONS TAKE A FRAME: with the premise no more than the passes left at its hop, so nine at the most; without it no more than the hops left up to the last, and of these no more than nine jump.
+-- HOW MANY STATIONS TAKE A FRAME: in any row no more than the hops left up to the last, and no more than nine at which the hop jumps; with the premise it jumps at each, so nine at the most.
 use mathlib.Core.Path.{_≡_, refl, sym, ap, _∙_, subst}
 use mathlib.Core.Bool.{Bool, true, false}
 use mathlib.Core.List.{List, []}
 use mathlib.Core.Logic.{_⊎_, inl, inr, ⊎-elim}
 use Prim.Native.Nat.{ℕ, suc, _+_, _-_, _<_, _≤_}
 use native.Mathlib.Omega.{arith}
-use borrow.Author.Tests.{ltb-true}
+use borrow.Author.Tests.{lt-ltb, le-ltb, ltb-true, ltb-false}
 use lib.Dec.{ltb}
 use lib.ListN.{length}
 use Rattle.refusals.specs.Literals.{tested}
@@ -32,7 +32,7 @@ use Rattle.bridge.proofs.Keeps.{receive-lawful, run-lawful}
 use Rattle.bridge.proofs.Heard.{took, taken-announced, heard-along}
 use Rattle.bridge.proofs.Least.{chosen-announced}
 use Rattle.bridge.proofs.Sent.{sent-frame-read}
-use Rattle.stations.specs.Stations.{Takes, afterIt, later, SendsOn, Row, last, next, ChosenBelow, AnyStation, jumpsIn, mostStations, hopsLeft}
+use Rattle.stations.specs.Stations.{Takes, afterIt, later, SendsOn, Row, last, next, ChosenBelow, jumpAt, jumpsIn, mostStations, hopsLeft}
 
 -- ---- one station
 
@@ -98,60 +98,60 @@ module _ {frame : List ℕ} (s : Takes frame) where
       (still-announced (o .calls) (o .no-other)) in
       ap hopAt (o .written) ∙ sym (hop-number _ _ (r .read)) ∙ held
 
+-- the hop jumps where the chosen hop is below the frame's, and nowhere else
+jump-counted : {frame : List ℕ} (s : Takes frame) → ChosenBelow (s .station) frame → jumpAt s ≡ 1
+jump-counted s below = ap tested (lt-ltb _ _ below)
+
+step-uncounted : {frame : List ℕ} (s : Takes frame) → hopAt frame ≤ hopBefore s → jumpAt s ≡ 0
+step-uncounted s l = ap tested (le-ltb _ _ l)
+
+-- a station uses up a pass where the hop jumps, and where it makes a single step there are no more than before
+pass-used : (frame : List ℕ) (s : Takes frame) → jumpAt s + passesOf (hopOf (hopAt frame) (hopBefore s)) ≤ passesOf (hopAt frame)
+pass-used frame s = by (ltb (hopBefore s) (hopAt frame)) refl
+  where
+    by : (t : Bool) → ltb (hopBefore s) (hopAt frame) ≡ t → jumpAt s + passesOf (hopOf (hopAt frame) (hopBefore s)) ≤ passesOf (hopAt frame)
+    by true e =
+        let below = ltb-true _ _ e in
+        omega (arith, jump-counted s below, passes-step (hopAt frame) (taken-below s), ap passesOf (hop-jump (hopAt frame) (hopBefore s) below))
+    by false e =
+        let rises = hop-rises (hopAt frame) (hopBefore s) in
+        let fewer = passes-order (hopAt frame) _ (omega (arith, rises)) (hop-within (hopAt frame) (hopBefore s) (taken-below s)) in
+        omega (arith, step-uncounted s (ltb-false _ _ e), fewer)
+
 -- ---- stations in a row
 
--- the first frame of a row was taken, so it has not the last hop
-row-first : {Premise : Bridge → List ℕ → Type 0} (frame : List ℕ) (n : ℕ) → Row Premise frame n → hopAt frame ≤ lastHop
-row-first _ _ (last frame s _) = omega (arith, taken-below s)
-row-first _ _ (next frame _ _ s _ _ _) = omega (arith, taken-below s)
+-- whatever holds at each of them, or nothing
+module _ {Premise : Bridge → List ℕ → Type 0} where
+  -- the first frame of a row was taken, so it has not the last hop
+  row-first : (frame : List ℕ) (n : ℕ) → Row Premise frame n → hopAt frame ≤ lastHop
+  row-first _ _ (last frame s _) = omega (arith, taken-below s)
+  row-first _ _ (next frame _ _ s _ _ _) = omega (arith, taken-below s)
 
--- where something falls at each station that meets the premise, there are no more stations than it says of the first frame's hop
-module _ (Premise : Bridge → List ℕ → Type 0) (left : ℕ → ℕ)
-    (falls : (frame : List ℕ) (s : Takes frame) → Premise (s .station) frame → left (hopOf (hopAt frame) (hopBefore s)) < left (hopAt frame)) where
-  row-within : (frame : List ℕ) (n : ℕ) → Row Premise frame n → n ≤ left (hopAt frame)
-  row-within _ _ (last frame s p) = omega (arith, falls frame s p)
-  row-within _ _ (next frame sent n s p o rest) = omega (arith, falls frame s p, row-within sent n rest, ap left (sent-on-hop s o))
+  -- IN ANY ROW the hop rises at each station, so there are no more of them than hops left up to the last
+  pub row-hops : (frame : List ℕ) (n : ℕ) → Row Premise frame n → n ≤ hopsLeft (hopAt frame)
+  row-hops _ _ (last frame s _) = omega (arith, taken-below s)
+  row-hops _ _ (next frame sent n s _ o rest) = omega (arith, taken-below s, hop-rises (hopAt frame) (hopBefore s), sent-on-hop s o, row-hops sent n rest)
 
--- the passes left fall where the chosen hop is below the frame's
-passes-fall : (frame : List ℕ) (s : Takes frame) → ChosenBelow (s .station) frame → passesOf (hopOf (hopAt frame) (hopBefore s)) < passesOf (hopAt frame)
-passes-fall frame s below =
-    omega (arith, passes-step (hopAt frame) (taken-below s), ap passesOf (hop-jump (hopAt frame) (hopBefore s) below))
+  -- and at no more of them than passes are left at the first frame's hop does it jump
+  pub row-jumps : (frame : List ℕ) (n : ℕ) (row : Row Premise frame n) → jumpsIn frame n row ≤ passesOf (hopAt frame)
+  unfolding jumpsIn
+  row-jumps _ _ (last frame s _) = omega (arith, pass-used frame s)
+  row-jumps _ _ (next frame sent n s _ o rest) = omega (arith, pass-used frame s, row-jumps sent n rest, ap passesOf (sent-on-hop s o))
 
--- the hops left fall at any station
-hops-fall : (frame : List ℕ) (s : Takes frame) → AnyStation (s .station) frame → hopsLeft (hopOf (hopAt frame) (hopBefore s)) < hopsLeft (hopAt frame)
-hops-fall frame s _ = omega (arith, hop-rises (hopAt frame) (hopBefore s), taken-below s)
+  -- so at nine at the most: every other station makes a single step
+  pub at-most-nine-jumps : (frame : List ℕ) (n : ℕ) (row : Row Premise frame n) → jumpsIn frame n row ≤ mostStations
+  at-most-nine-jumps frame n row = omega (arith, row-jumps frame n row, passes-most (hopAt frame) (row-first frame n row))
+
+-- where the chosen hop is below the frame's at each of them, the hop jumps at each
+pub all-jump : (frame : List ℕ) (n : ℕ) (row : Row ChosenBelow frame n) → jumpsIn frame n row ≡ n
+unfolding jumpsIn
+all-jump _ _ (last frame s below) = jump-counted s below
+all-jump _ _ (next frame sent n s below o rest) = omega (arith, jump-counted s below, all-jump sent n rest)
 
 -- WITH THE PREMISE: no more stations than passes left at the frame's hop
 pub row-passes : (frame : List ℕ) (n : ℕ) → Row ChosenBelow frame n → n ≤ passesOf (hopAt frame)
-row-passes = row-within ChosenBelow passesOf passes-fall
+row-passes frame n row = omega (arith, row-jumps frame n row, all-jump frame n row)
 
 -- so nine at the most, whatever frame it is and whichever stations
 pub at-most-nine : (frame : List ℕ) (n : ℕ) → Row ChosenBelow frame n → n ≤ mostStations
-at-most-nine frame n row = omega (arith, row-passes frame n row, passes-most (hopAt frame) (row-first frame n row))
-
--- WITHOUT IT: no more than hops left up to the last
-pub row-hops : (frame : List ℕ) (n : ℕ) → Row AnyStation frame n → n ≤ hopsLeft (hopAt frame)
-row-hops = row-within AnyStation hopsLeft hops-fall
-
--- ---- jumps in any row
-
--- a station uses up a pass where the hop jumps, and where it makes a single step there are no more than before
-pass-used : (frame : List ℕ) (s : Takes frame)
-    → tested (ltb (hopBefore s) (hopAt frame)) + passesOf (hopOf (hopAt frame) (hopBefore s)) ≤ passesOf (hopAt frame)
-pass-used frame s = by (ltb (hopBefore s) (hopAt frame)) refl
-  where
-    by : (t : Bool) → ltb (hopBefore s) (hopAt frame) ≡ t → tested t + passesOf (hopOf (hopAt frame) (hopBefore s)) ≤ passesOf (hopAt frame)
-    by true e = omega (arith, passes-fall frame s (ltb-true _ _ e))
-    by false e =
-        let rises = hop-rises (hopAt frame) (hopBefore s) in
-        omega (arith, passes-order (hopAt frame) _ (omega (arith, rises)) (hop-within (hopAt frame) (hopBefore s) (taken-below s)))
-
--- IN ANY ROW, however long, no more stations jump than passes are left at the first frame's hop
-pub row-jumps : (frame : List ℕ) (n : ℕ) (row : Row AnyStation frame n) → jumpsIn frame n row ≤ passesOf (hopAt frame)
-unfolding jumpsIn
-row-jumps _ _ (last frame s _) = omega (arith, pass-used frame s)
-row-jumps _ _ (next frame sent n s _ o rest) = omega (arith, pass-used frame s, row-jumps sent n rest, ap passesOf (sent-on-hop s o))
-
--- so nine at the most: every other station of the row makes a single step
-pub at-most-nine-jumps : (frame : List ℕ) (n : ℕ) (row : Row AnyStation frame n) → jumpsIn frame n row ≤ mostStations
-at-most-nine-jumps frame n row = omega (arith, row-jumps frame n row, passes-most (hopAt frame) (row-first frame n row))
+at-most-nine frame n row = omega (arith, at-most-nine-jumps frame n row, all-jump frame n row)

@@ -61,10 +61,14 @@ ChosenBelow b frame = chosenHop (chosenOf b) < hopAt frame
 abbrev pub AnyStation : Bridge → List ℕ → Type 0
 AnyStation b frame = Unit {0}
 
--- the stations of any row at which the hop jumps: their chosen hop is below the frame's own
-unfoldable pub jumpsIn : (frame : List ℕ) (n : ℕ) → Row AnyStation frame n → ℕ
-jumpsIn _ _ (last frame s _) = tested (ltb (chosenHop (chosenOf (s .station))) (hopAt frame))
-jumpsIn _ _ (next frame sent n s _ _ rest) = tested (ltb (chosenHop (chosenOf (s .station))) (hopAt frame)) + jumpsIn sent n rest
+-- whether the hop jumps at a station, 1 or 0: it does where that premise holds
+abbrev pub jumpAt : {frame : List ℕ} → Takes frame → ℕ
+jumpAt {frame} s = tested (ltb (chosenHop (chosenOf (s .station))) (hopAt frame))
+
+-- at how many stations of a row it does, whatever premise the row has
+unfoldable pub jumpsIn : {Premise : Bridge → List ℕ → Type 0} (frame : List ℕ) (n : ℕ) → Row Premise frame n → ℕ
+jumpsIn _ _ (last frame s _) = jumpAt s
+jumpsIn _ _ (next frame sent n s _ _ rest) = jumpAt s + jumpsIn sent n rest
 
 -- ---- how many
 
