@@ -15,7 +15,7 @@ pub const NO_LINK: Answer = 3;
 pub const BAD_LENGTH: Answer = 4;
 /// One of the frame's fixed bytes is wrong.
 pub const NOT_TIME_SYNC: Answer = 5;
-/// The frame's version is unknown.
+/// The frame's version is neither 1 nor 2.
 pub const BAD_VERSION: Answer = 6;
 /// The frame has come too many hops.
 pub const TOO_FAR: Answer = 7;
@@ -29,7 +29,7 @@ pub const NO_CLOCK: Answer = 10;
 pub const TOO_FEW_SAMPLES: Answer = 11;
 /// The departure or the latch is too far from the newer sample.
 pub const OUT_OF_REACH: Answer = 12;
-/// What was worked out is beyond its range: a grand time to be sent or as a stamp, or seconds of a scale.
+/// What was worked out is beyond its range: a grand time or an errorTime to be sent, a stamp, or seconds of a scale.
 pub const BEYOND_RANGE: Answer = 13;
 /// The line of text does not have the wanted form.
 pub const BAD_LINE: Answer = 14;

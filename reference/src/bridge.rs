@@ -4,10 +4,10 @@ use crate::answer::{
     Answer, BAD_LENGTH, BAD_SETUP, BEYOND_RANGE, DONE, NO_CLOCK, NO_LINK, OUT_OF_RANGE,
     OUT_OF_REACH, OUT_OF_SEQUENCE, TOO_FEW_SAMPLES,
 };
-use crate::frame::{self, Fields, FRAME_LEN, MAC_LEN, PRECEDENCE_WORST};
+use crate::frame::{self, Fields, Version, FRAME_LEN, MAC_LEN, PRECEDENCE_WORST};
 use crate::order::{InTurn, Order, Places};
 use crate::port::{Heard, Port};
-use crate::rules::{self, DELAY_MOST, HOP_LAST, HOP_NONE, REACH_END, STAMPED_MOST};
+use crate::rules::{self, HOP_LAST, HOP_NONE, REACH_END, STAMPED_MOST};
 use crate::samples::{Sample, Samples};
 use crate::times::{distance, grand, is_local, next_count, spread};
 use std::ops::RangeInclusive;
@@ -48,6 +48,7 @@ pub struct Plan {
     pub timeout: Option<u64>,
     pub back: Option<u64>,
     pub delays: [Option<u64>; PORTS_MOST],
+    pub versions: [Version; PORTS_MOST],
 }
 
 /// What a setup settles for the whole bridge.
@@ -145,17 +146,15 @@ impl<T: Table, O: Order> Bridge<T, O> {
 
     /// Makes a bridge after a plan whose values are in range.
     fn planned(plan: &Plan, order: O) -> Option<Self> {
-        let wanted = plan.delays.get(..usize::from(plan.ports))?;
+        let ports = plan.planned_ports()?;
         let timeout = plan.timeout.unwrap_or(TIMEOUT_DEFAULT);
         let back = plan.back.unwrap_or(BACK_DEFAULT);
-        let too_slow = wanted.iter().flatten().any(|delay| *delay > DELAY_MOST);
-        if wanted.is_empty() || !TIMEOUTS.contains(&timeout) || back > BACK_MOST || too_slow {
+        if !TIMEOUTS.contains(&timeout) || back > BACK_MOST {
             return None;
         }
         if plan.profile == Profile::Listener && !plan.only_listens(back) {
             return None;
         }
-        let ports: Vec<Port> = wanted.iter().map(|delay| Port::new(*delay)).collect();
         Some(Bridge {
             settings: Settings {
                 profile: plan.profile,
@@ -231,27 +230,33 @@ impl<T: Table, O: Order> Bridge<T, O> {
         Ok((chosen, older, newer))
     }
 
-    /// Gives the fields of a frame that tell of a clock, those of a station and of a link being zeros, or refuses.
-    fn told(&mut self, departure: u64) -> Result<Fields, Answer> {
-        match self.settings.profile {
-            Profile::Full => self.told_of_chosen(departure),
-            Profile::Listener => Ok(told_by_listener()),
-        }
+    /// Gives the fields of a frame that tell of a clock in a version, those of a station and of a link being zeros, or refuses.
+    fn told(&mut self, version: Version, departure: u64) -> Result<Fields, Answer> {
+        let told = match self.settings.profile {
+            Profile::Full => self.told_of_chosen(version, departure)?,
+            Profile::Listener => told_by_listener(),
+        };
+        Ok(Fields { version, ..told })
     }
 
-    /// Gives the fields that tell of the chosen clock, with the grand time for a departure, or refuses.
-    fn told_of_chosen(&mut self, departure: u64) -> Result<Fields, Answer> {
+    /// Gives the fields that tell of the chosen clock, with the grand time for a departure and the errorTime of a version, or refuses.
+    fn told_of_chosen(&mut self, version: Version, departure: u64) -> Result<Fields, Answer> {
         let (chosen, older, newer) = self.followed()?;
         if spread(departure, newer.local) >= REACH_END {
             return Err(OUT_OF_REACH);
         }
         let back = self.settings.back;
-        let sent = rules::sent_grand(older.point(), newer.point(), back, departure);
+        let rate = rules::sample_rate(older.point(), newer.point());
+        let sent = rules::sent_grand(rate, newer.point(), back, departure);
+        let error = match version {
+            Version::TWO => as_error(rules::sent_error(rate, newer.error, back))?,
+            _ => newer.error,
+        };
         Ok(Fields {
             precedence: chosen.precedence,
             hop: chosen.hop,
             grand: as_grand(sent)?,
-            error: newer.error,
+            error,
             ..Fields::default()
         })
     }
@@ -275,7 +280,23 @@ fn as_grand(time: i128) -> Result<u128, Answer> {
     }
 }
 
+/// Gives a number that was worked out as an errorTime, or refuses.
+fn as_error(error: i128) -> Result<i32, Answer> {
+    i32::try_from(error).map_err(|_| BEYOND_RANGE)
+}
+
 impl Plan {
+    /// Gives the ports that are planned, where there are one to eight, each with a delay and a version that can be set.
+    fn planned_ports(&self) -> Option<Vec<Port>> {
+        let delays = self.delays.get(..usize::from(self.ports))?;
+        let ports: Vec<Port> = delays
+            .iter()
+            .zip(self.versions)
+            .map(|(delay, version)| Port::new(*delay, version))
+            .collect();
+        (!ports.is_empty() && ports.iter().all(Port::can_be_set)).then_some(ports)
+    }
+
     /// Says whether ports, own clock and back time are those that a listener has.
     fn only_listens(&self, back: u64) -> bool {
         self.ports == LISTENER_PORTS && !self.capable && back == LISTENER_BACK
@@ -421,7 +442,8 @@ impl<T: Table, O: Order> Calls for Bridge<T, O> {
             return BAD_LENGTH;
         }
         let count = self.ports.as_mut()[place].use_count();
-        let told = match self.told(departure) {
+        let version = self.ports.as_ref()[place].version;
+        let told = match self.told(version, departure) {
             Ok(told) => told,
             Err(refusal) => return refusal,
         };

@@ -20,9 +20,9 @@ pub const DA: [u8; MAC_LEN] = [0x01, 0x80, 0xC2, 0x00, 0x00, 0x0E];
 pub const PROTOCOL: [u8; 2] = [0x88, 0xB5];
 /// The function of every frame.
 pub const FUNCTION: u8 = 1;
-/// The only known version.
-pub const VERSION: u8 = 1;
 
+/// Where the version stands.
+pub const AT_VERSION: usize = 15;
 /// Where the hop stands.
 pub const AT_HOP: usize = 29;
 
@@ -30,7 +30,6 @@ const AT_DA: Range<usize> = 0..6;
 const AT_SA: Range<usize> = 6..12;
 const AT_PROTOCOL: Range<usize> = 12..14;
 const AT_FUNCTION: usize = 14;
-const AT_VERSION: usize = 15;
 const AT_PRECEDENCE: Range<usize> = 16..29;
 const AT_COUNT: usize = 30;
 const AT_ZERO: usize = 31;
@@ -40,9 +39,33 @@ const AT_THAT_TX: Range<usize> = 48..54;
 const AT_THAT_RX: Range<usize> = 54..60;
 const AT_ERROR: Range<usize> = 60..64;
 
+/// A version as a frame, a port or a line gives it, which may be an unknown one.
+#[derive(Clone, Copy, Debug, PartialEq, Eq)]
+pub struct Version(pub u8);
+
+impl Version {
+    /// The version whose errorTime is the newer sample's.
+    pub const ONE: Version = Version(1);
+    /// The version whose errorTime has also what version 1 leaves out for the back time.
+    pub const TWO: Version = Version(2);
+
+    /// Says whether it is one of the two versions that there are.
+    pub fn is_known(self) -> bool {
+        self == Version::ONE || self == Version::TWO
+    }
+}
+
+impl Default for Version {
+    /// Gives version 1.
+    fn default() -> Self {
+        Version::ONE
+    }
+}
+
 /// The fields of a frame that can differ.
 #[derive(Clone, Copy, Debug, Default, PartialEq, Eq)]
 pub struct Fields {
+    pub version: Version,
     pub sa: [u8; MAC_LEN],
     pub precedence: u128,
     pub hop: u8,
@@ -76,7 +99,7 @@ pub fn read(bytes: &[u8]) -> Result<Fields, Answer> {
     if !has_fixed_bytes(bytes) {
         return Err(NOT_TIME_SYNC);
     }
-    if bytes[AT_VERSION] != VERSION {
+    if !Version(bytes[AT_VERSION]).is_known() {
         return Err(BAD_VERSION);
     }
     Ok(taken_apart(bytes))
@@ -95,6 +118,7 @@ fn taken_apart(bytes: &[u8]) -> Fields {
     let mut sa = [0; MAC_LEN];
     sa.copy_from_slice(&bytes[AT_SA]);
     Fields {
+        version: Version(bytes[AT_VERSION]),
         sa,
         precedence: number(&bytes[AT_PRECEDENCE]),
         hop: bytes[AT_HOP],
@@ -118,18 +142,21 @@ pub fn write(fields: &Fields, output: &mut [u8]) -> Answer {
     if output.len() < FRAME_LEN {
         return BAD_LENGTH;
     }
+    if !fields.version.is_known() {
+        return BAD_VERSION;
+    }
     output[..FRAME_LEN].copy_from_slice(&put_together(fields));
     DONE
 }
 
-/// Gives the 64 bytes for fields whose times are in range.
+/// Gives the 64 bytes for fields whose times are in range, whatever the version.
 pub fn put_together(fields: &Fields) -> [u8; FRAME_LEN] {
     let mut bytes = [0; FRAME_LEN];
     bytes[AT_DA].copy_from_slice(&DA);
     bytes[AT_SA].copy_from_slice(&fields.sa);
     bytes[AT_PROTOCOL].copy_from_slice(&PROTOCOL);
     bytes[AT_FUNCTION] = FUNCTION;
-    bytes[AT_VERSION] = VERSION;
+    bytes[AT_VERSION] = fields.version.0;
     put(&mut bytes[AT_PRECEDENCE], fields.precedence);
     bytes[AT_HOP] = fields.hop;
     bytes[AT_COUNT] = fields.count;

@@ -1,8 +1,8 @@
 //! One port and the rules that concern it alone.
 
 use crate::answer::{Answer, BAD_DELAY, DONE, NO_LINK, OUT_OF_SEQUENCE, TOO_FAR};
-use crate::frame::{self, Fields};
-use crate::rules::{self, HOP_NONE};
+use crate::frame::{self, Fields, Version};
+use crate::rules::{self, DELAY_MOST, HOP_NONE};
 use crate::samples::{Sample, Samples};
 use crate::times::{moved, next_count, spread};
 
@@ -32,21 +32,28 @@ pub struct Record {
     pub next_count: u8,
 }
 
-/// A port, which has a fixed delay or else a measured one.
+/// A port, which has a fixed delay or else a measured one, and the version of the frames that it sends.
 #[derive(Clone, Copy, Debug, Default, PartialEq, Eq)]
 pub struct Port {
     pub fixed: Option<u64>,
+    pub version: Version,
     pub linked: bool,
     pub record: Record,
 }
 
 impl Port {
     /// Makes a port without a link.
-    pub fn new(fixed: Option<u64>) -> Port {
+    pub fn new(fixed: Option<u64>, version: Version) -> Port {
         Port {
             fixed,
+            version,
             ..Port::default()
         }
+    }
+
+    /// Says whether a fixed delay and the version are within their limits.
+    pub fn can_be_set(&self) -> bool {
+        self.fixed.is_none_or(|delay| delay <= DELAY_MOST) && self.version.is_known()
     }
 
     /// Sets the link and forgets the record where it goes down.

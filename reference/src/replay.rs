@@ -2,7 +2,7 @@
 
 use crate::answer::{Answer, BAD_LINE, DONE, OUT_OF_RANGE};
 use crate::bridge::{Calls, Plan, Profile, PORTS_MOST};
-use crate::frame::{self, Fields, MAC_LEN, PRECEDENCE_LEN};
+use crate::frame::{self, Fields, Version, MAC_LEN, PRECEDENCE_LEN};
 use crate::hex::{self, GRAND_DIGITS, LOCAL_DIGITS, NANOSECONDS_DIGITS, SECONDS_DIGITS};
 use crate::program::Program;
 use crate::ptp::{self, Scale, Timestamp};
@@ -161,8 +161,7 @@ impl<C: Calls> Replay<C> {
         }
         let mut rest = Rest::of(line);
         match rest.part()? {
-            b"S" => self.setup(Profile::Full, rest, out),
-            b"P" => self.setup(Profile::Listener, rest, out),
+            b"S" | b"P" | b"V" => self.setup(line, out),
             b"L" => self.links(rest, out),
             b"O" => self.own_clock(rest, out),
             b"R" => self.receive(rest, out),
@@ -185,9 +184,9 @@ impl<C: Calls> Replay<C> {
         }
     }
 
-    /// Plays a setup as a profile.
-    fn setup(&mut self, profile: Profile, rest: Rest, out: &mut Vec<u8>) -> Option<()> {
-        let plan = planned(profile, rest)?;
+    /// Plays a setup.
+    fn setup(&mut self, line: &[u8], out: &mut Vec<u8>) -> Option<()> {
+        let plan = plan_in(line)?;
         hex::put_byte(out, self.bridge.setup(&plan));
         Some(())
     }
@@ -289,8 +288,34 @@ impl<C: Calls> Replay<C> {
     }
 }
 
-/// Gives the plan of a setup as a profile.
-fn planned(profile: Profile, mut rest: Rest) -> Option<Plan> {
+/// Gives the plan in a line that sets a station up: a full bridge, a listener, or one with every part said.
+pub fn plan_in(line: &[u8]) -> Option<Plan> {
+    let mut rest = Rest::of(line);
+    let plan = match rest.part()? {
+        b"S" => planned(Profile::Full, &mut rest)?,
+        b"P" => planned(Profile::Listener, &mut rest)?,
+        b"V" => planned_in_full(&mut rest)?,
+        _ => return None,
+    };
+    rest.end()?;
+    Some(plan)
+}
+
+/// Gives the plan of a setup that says the profile before all else and the versions after it.
+fn planned_in_full(rest: &mut Rest) -> Option<Plan> {
+    let profile = match rest.flag()? {
+        false => Profile::Full,
+        true => Profile::Listener,
+    };
+    let plan = planned(profile, rest)?;
+    Some(Plan {
+        versions: rest.exactly::<PORTS_MOST>()?.map(Version),
+        ..plan
+    })
+}
+
+/// Gives the plan of a setup as a profile, with version 1 at every port.
+fn planned(profile: Profile, rest: &mut Rest) -> Option<Plan> {
     let mut plan = Plan {
         profile,
         ports: rest.byte()?,
@@ -300,21 +325,12 @@ fn planned(profile: Profile, mut rest: Rest) -> Option<Plan> {
         timeout: rest.number_unless(b"D")?,
         back: rest.number_unless(b"D")?,
         delays: [None; PORTS_MOST],
+        versions: [Version::ONE; PORTS_MOST],
     };
     for delay in &mut plan.delays {
         *delay = rest.number_unless(b"M")?;
     }
-    rest.end()?;
     Some(plan)
-}
-
-/// Gives the plan in a line that sets a listener up.
-pub fn listener_in(line: &[u8]) -> Option<Plan> {
-    let mut rest = Rest::of(line);
-    match rest.part()? {
-        b"P" => planned(Profile::Listener, rest),
-        _ => None,
-    }
 }
 
 /// Prints two bytes with a space between them.
@@ -363,6 +379,7 @@ fn put_fields(out: &mut Vec<u8>, fields: &Fields) {
         (u128::from(fields.that_tx), LOCAL_DIGITS),
         (u128::from(fields.that_rx), LOCAL_DIGITS),
         (u128::from(fields.error as u32), 8),
+        (u128::from(fields.version.0), 2),
     ];
     put_done(out, &numbers);
 }
@@ -381,6 +398,7 @@ fn write(mut rest: Rest, out: &mut Vec<u8>) -> Option<()> {
     fields.that_tx = rest.number()?;
     fields.that_rx = rest.number()?;
     fields.error = i32::from_be_bytes(rest.exactly()?);
+    fields.version = Version(rest.byte()?);
     let mut output = rest.output()?;
     rest.end()?;
     let answer = match time {

@@ -102,21 +102,26 @@ pub fn sample_difference(older: (u128, u64), newer: (u128, u64)) -> i128 {
     newer.0 as i128 - older.0 as i128 - i128::from(spread(newer.1, older.1))
 }
 
-/// Gives the grand time of a departure on the line through two samples, set back by the back time.
-pub fn sent_grand(older: (u128, u64), newer: (u128, u64), back: u64, departure: u64) -> i128 {
+/// Gives the grand time of a departure: by the samples' rate up to the back time before it, and from there on by local time.
+pub fn sent_grand(rate: i128, newer: (u128, u64), back: u64, departure: u64) -> i128 {
     let reach = i128::from(spread(departure, newer.1));
     let stretch = reach - i128::from(back);
-    led_on(older, newer, reach, stretch)
+    led_on(rate, newer, reach, stretch)
+}
+
+/// Gives the errorTime of version 2: the newer sample's, and what the samples' rate makes of the back time, which is missing in the grand time.
+pub fn sent_error(rate: i128, newer_error: i32, back: u64) -> i128 {
+    i128::from(newer_error) + rated(rate, i128::from(back))
 }
 
 /// Gives the stamp of a latch at a distance from the newer of two samples.
 pub fn stamp(older: (u128, u64), newer: (u128, u64), distance: i128) -> i128 {
-    led_on(older, newer, distance, distance)
+    led_on(sample_rate(older, newer), newer, distance, distance)
 }
 
 /// Leads the newer sample's grand time on by a way, and by what the samples' rate makes of a stretch.
-fn led_on(older: (u128, u64), newer: (u128, u64), way: i128, stretch: i128) -> i128 {
-    newer.0 as i128 + way + rated(sample_rate(older, newer), stretch)
+fn led_on(rate: i128, newer: (u128, u64), way: i128, stretch: i128) -> i128 {
+    newer.0 as i128 + way + rated(rate, stretch)
 }
 
 /// Says whether a number that was worked out is a grand time.

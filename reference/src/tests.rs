@@ -1,14 +1,15 @@
 //! The figures that are known beforehand.
 
 use crate::answer::{
-    BAD_DELAY, BAD_LENGTH, BAD_SETUP, BEYOND_RANGE, DONE, NO_CLOCK, NO_LINK, OUT_OF_RANGE,
-    OUT_OF_REACH, OUT_OF_SEQUENCE, TOO_FAR, TOO_FEW_SAMPLES,
+    BAD_DELAY, BAD_LENGTH, BAD_SETUP, BAD_VERSION, BEYOND_RANGE, DONE, NOT_TIME_SYNC, NO_CLOCK,
+    NO_LINK, OUT_OF_RANGE, OUT_OF_REACH, OUT_OF_SEQUENCE, TOO_FAR, TOO_FEW_SAMPLES,
 };
 use crate::bridge::{
     Bridge, Calls, Chosen, Listed, Plan, Profile, BACK_DEFAULT, BACK_MOST, OWN, TIMEOUT_DEFAULT,
 };
 use crate::byvalue::{Flat, Handed};
-use crate::frame::{self, Fields, FRAME_LEN, PRECEDENCE_WORST};
+use crate::frame::{self, Fields, Version, AT_VERSION, FRAME_LEN, PRECEDENCE_WORST};
+use crate::hex;
 use crate::listing::Listing;
 use crate::lives::census::{Census, PassesCensus, RankingCensus, TimestampCensus};
 use crate::lives::latches;
@@ -17,14 +18,16 @@ use crate::lives::listener_census::ListenerCensus;
 use crate::lives::lives;
 use crate::lives::random::Random;
 use crate::lives::stamped::Stamper;
+use crate::lives::version_census::VersionCensus;
 use crate::order::{better, paired, Order, Places, Shuffled};
 use crate::port::Port;
 use crate::program::Program;
 use crate::ptp::{export, import, on_scale, Scale, NANOSECONDS_END, SECONDS_END};
-use crate::replay::Replay;
+use crate::replay::{plan_in, Replay};
 use crate::rules::{
-    held_hop, link_delay, parts_per_million, passes_left, rate, rated, sent_grand, steady,
-    DELAY_MOST, HOP_LAST, HOP_NONE, RATE_ONE, SPREAD_LEAST, SPREAD_MOST, STEADINESS,
+    held_hop, link_delay, parts_per_million, passes_left, rate, rated, sample_rate, sent_error,
+    sent_grand, steady, DELAY_MOST, HOP_LAST, HOP_NONE, RATE_ONE, SPREAD_LEAST, SPREAD_MOST,
+    STEADINESS,
 };
 use crate::samples::{Sample, Samples};
 use crate::stamps::Stamps;
@@ -180,7 +183,9 @@ fn frames_are_taken_as_often_as_they_have_passes() {
 fn sent_time_lies_on_the_line() {
     let newer = 100 * SECOND + (1 << 34) + 2;
     let older = newer - (1 << 34) - 2;
-    let sent = sent_grand((older, 7), (newer, 7 + (1 << 34)), 1 << 33, 7 + (2 << 34));
+    let newer = (newer, 7 + (1 << 34));
+    let rate = sample_rate((older, 7), newer);
+    let sent = sent_grand(rate, newer, 1 << 33, 7 + (2 << 34));
     assert_eq!(sent, (100 * SECOND) as i128 + 34_359_738_371);
 }
 
@@ -1182,6 +1187,7 @@ const LISTENER: Plan = Plan {
     timeout: None,
     back: Some(0),
     delays: [None; 8],
+    versions: [Version::ONE; 8],
 };
 
 /// Makes a listener whose port has a link.
@@ -1560,11 +1566,11 @@ fn lines_of_listeners_have_their_form() {
 fn census_misses_listeners() {
     let mut census = ListenerCensus::default();
     let mut bridge = listener();
-    assert_eq!(census.missing().len(), 59);
+    assert_eq!(census.missing().len(), 60);
     let setup = b"P 1 020000000007 00000000000000000000000001 0 D 0 M M M M M M M M";
     census.count(setup, b"00", &bridge);
     census.count(b"P 1", b"0E", &bridge);
-    assert_eq!(census.missing().len(), 57);
+    assert_eq!(census.missing().len(), 58);
     let mut out = Vec::new();
     let mut replay = Replay {
         bridge: bridge.clone(),
@@ -1572,7 +1578,7 @@ fn census_misses_listeners() {
     replay.answer(b"T 1 0 40", &mut out);
     census.count(b"T 1 0 40", &out, &replay.bridge);
     let missing = census.missing();
-    assert_eq!(missing.len(), 54);
+    assert_eq!(missing.len(), 55);
     assert!(!missing.contains(&String::from("sent for no clock")));
     assert!(missing.contains(&String::from("sent for beyond range")));
     assert!(missing.contains(&String::from("sent echo")));
@@ -1589,4 +1595,700 @@ fn census_misses_listeners() {
         .missing()
         .contains(&String::from("set up more ports")));
     assert!(census.missing().contains(&String::from("set up capable")));
+}
+
+/// Every version byte but 1 and 2.
+fn wrong_versions() -> impl Iterator<Item = Version> {
+    (0..=u8::MAX)
+        .map(Version)
+        .filter(|version| ![1, 2].contains(&version.0))
+}
+
+/// Gives fields in a version, whose other parts are all different.
+fn versioned(version: Version) -> Fields {
+    Fields {
+        version,
+        sa: [2, 0, 0, 0, 0, 1],
+        precedence: 5,
+        hop: 3,
+        count: 4,
+        grand: 7 * SECOND,
+        local: 8,
+        that_tx: 9,
+        that_rx: 10,
+        error: -11,
+    }
+}
+
+/// A frame of version 1 or 2 is read with its version, and one of any other is refused with 6, after 4 and 5.
+#[test]
+fn versions_are_read() {
+    for version in [Version(1), Version(2)] {
+        let fields = versioned(version);
+        let bytes = frame::put_together(&fields);
+        assert_eq!(bytes[AT_VERSION], version.0);
+        assert_eq!(frame::read(&bytes), Ok(fields));
+    }
+    for version in wrong_versions() {
+        let mut bytes = frame::put_together(&versioned(version));
+        assert_eq!(frame::read(&bytes), Err(BAD_VERSION));
+        bytes[0] ^= 1;
+        assert_eq!(frame::read(&bytes), Err(NOT_TIME_SYNC));
+        assert_eq!(frame::read(&bytes[1..]), Err(BAD_LENGTH));
+    }
+}
+
+/// The two versions of the same fields differ in byte 15 alone.
+#[test]
+fn versions_differ_in_one_byte() {
+    let mut bytes = frame::put_together(&versioned(Version(1)));
+    bytes[15] = 2;
+    assert_eq!(bytes, frame::put_together(&versioned(Version(2))));
+}
+
+/// Asserts that a write is refused with a number and leaves the output alone.
+fn assert_not_written(fields: &Fields, length: usize, refusal: u8) {
+    let mut output = vec![0xA5; length];
+    assert_eq!(frame::write(fields, &mut output), refusal);
+    assert_eq!(output, vec![0xA5; length]);
+}
+
+/// A frame of version 1 or 2 is written, and one of any other is refused with 6, after 2 and 4.
+#[test]
+fn versions_are_written() {
+    for version in [Version(1), Version(2)] {
+        let fields = versioned(version);
+        let mut output = [0xA5; FRAME_LEN + 1];
+        assert_eq!(frame::write(&fields, &mut output), DONE);
+        assert_eq!(output[..FRAME_LEN], frame::put_together(&fields));
+        assert_eq!(output[FRAME_LEN], 0xA5);
+        assert_not_written(&fields, FRAME_LEN - 1, BAD_LENGTH);
+    }
+    for version in wrong_versions() {
+        let fields = versioned(version);
+        assert_not_written(&fields, FRAME_LEN, BAD_VERSION);
+        assert_not_written(&fields, FRAME_LEN + 1, BAD_VERSION);
+        assert_not_written(&fields, FRAME_LEN - 1, BAD_LENGTH);
+        assert_not_written(&fields, 0, BAD_LENGTH);
+        let late = Fields {
+            that_rx: LOCAL_END,
+            ..fields
+        };
+        assert_not_written(&late, FRAME_LEN, OUT_OF_RANGE);
+        assert_not_written(&late, FRAME_LEN - 1, OUT_OF_RANGE);
+    }
+}
+
+/// Frames of both versions are compared by precedence and hop, the first being the better on a tie, and one of another version loses.
+#[test]
+fn versions_do_not_count_in_comparisons() {
+    let of = |version, precedence, hop| {
+        frame::put_together(&Fields {
+            version: Version(version),
+            precedence,
+            hop,
+            ..Fields::default()
+        })
+    };
+    for (one, other) in [(1, 1), (1, 2), (2, 1), (2, 2)] {
+        let (better, worse, farther) = (of(one, 5, 3), of(other, 6, 2), of(other, 5, 4));
+        for lesser in [worse, farther] {
+            assert_eq!(frame::better(&better, &lesser), &better[16..29]);
+            assert_eq!(frame::better(&lesser, &better), &better[16..29]);
+        }
+        let equal = of(other, 5, 3);
+        let part = frame::better(&better, &equal);
+        assert!(std::ptr::eq(part, &better[16..29]));
+    }
+    for wrong in [0, 3, 255] {
+        let (known, unknown) = (of(2, 9, 9), of(wrong, 1, 1));
+        assert_eq!(frame::better(&known, &unknown), &known[16..29]);
+        assert_eq!(frame::better(&unknown, &known), &known[16..29]);
+        assert!(frame::better(&unknown, &unknown).is_empty());
+    }
+}
+
+/// Gives a plan of so many ports with versions for all eight.
+fn plan_of(ports: u8, versions: [u8; 8]) -> Plan {
+    Plan {
+        ports,
+        versions: versions.map(Version),
+        ..Plan::default()
+    }
+}
+
+/// Asserts that at a place of a plan of so many ports each version is taken or refused as it should be.
+fn assert_looked_at(ports: u8, place: usize) {
+    let count = usize::from(ports);
+    for version in 0..=u8::MAX {
+        let mut versions = [2; 8];
+        versions[count..].fill(255);
+        versions[place] = version;
+        let taken = place >= count || [1, 2].contains(&version);
+        let wanted = if taken { DONE } else { BAD_SETUP };
+        let answer = Listed::empty().setup(&plan_of(ports, versions));
+        assert_eq!(answer, wanted);
+    }
+}
+
+/// Each port that there is must have version 1 or 2, and those beyond are not looked at.
+#[test]
+fn ports_have_known_versions() {
+    for ports in 1..=8 {
+        for place in 0..8 {
+            assert_looked_at(ports, place);
+        }
+    }
+}
+
+/// Each port keeps its own version, through the loss of its link too, and a refused version leaves what every refused setup leaves.
+#[test]
+fn ports_keep_their_versions() {
+    let mut bridge = Listed::empty();
+    let versions = |bridge: &Listed| -> Vec<u8> {
+        let ports = bridge.ports.iter();
+        ports.map(|port| port.version.0).collect()
+    };
+    assert_eq!(bridge.setup(&plan_of(4, [2, 1, 1, 2, 9, 9, 9, 9])), DONE);
+    assert_eq!(versions(&bridge), [2, 1, 1, 2]);
+    assert_eq!(bridge.links(15), Ok(4));
+    assert_eq!(bridge.links(0), Ok(0));
+    assert_eq!(versions(&bridge), [2, 1, 1, 2]);
+    assert_eq!(
+        bridge.setup(&plan_of(2, [2, 0, 1, 1, 1, 1, 1, 1])),
+        BAD_SETUP
+    );
+    assert_eq!(bridge, Listed::empty());
+}
+
+/// Version 1 is the default of a plan and of a frame, what the lines without versions mean, and what the listing is set up with.
+#[test]
+fn version_1_is_the_default() {
+    assert_eq!(Plan::default().versions, [Version(1); 8]);
+    assert_eq!(Fields::default().version, Version(1));
+    for letter in ["S", "P"] {
+        let rest = "1 020000000007 00000000000000000000000001 0 D 0 M M M M M M M M";
+        let plan = plan_in(format!("{letter} {rest}").as_bytes());
+        assert_eq!(plan.map(|plan| plan.versions), Some([Version(1); 8]));
+    }
+    let listing = Listing::on(Listed::empty());
+    let versions: Vec<Version> = listing
+        .bridge
+        .ports
+        .iter()
+        .map(|port| port.version)
+        .collect();
+    assert_eq!(versions, [Version(1); 2]);
+}
+
+/// What version 2 adds is the rate's part of the back time, rounded down for rates of both signs.
+#[test]
+fn version_2_adds_the_missing_rest() {
+    for (rate, back, rest) in [
+        (0, BACK_MOST, 0),
+        (8_589_935, 0, 0),
+        (-8_589_935, 0, 0),
+        (2, (1 << 34) - 1, 0),
+        (2, 1 << 34, 1),
+        (1, BACK_DEFAULT, 0),
+        (-1, BACK_DEFAULT, -1),
+        (-1, 1, -1),
+        (-1, 1 << 35, -1),
+        (-1, (1 << 35) + 1, -2),
+        (1 << 20, BACK_DEFAULT, 503_316),
+        (-(1 << 20), BACK_DEFAULT, -503_317),
+        (8_589_935, BACK_DEFAULT, 4_123_168),
+        (-8_589_935, BACK_DEFAULT, -4_123_169),
+        (8_589_935, BACK_MOST, 137_438_959),
+        (-8_589_935, BACK_MOST, -137_438_960),
+    ] {
+        assert_eq!(sent_error(rate, 0, back), rest);
+        assert_eq!(sent_error(rate, -7, back), rest - 7);
+        assert_eq!(sent_error(rate, i32::MAX, back), rest + 2_147_483_647);
+        assert_eq!(sent_error(rate, i32::MIN, back), rest - 2_147_483_648);
+    }
+}
+
+const STEEPEST: Line = Line {
+    spread: 4_000_000_000,
+    difference: 1_000_000,
+};
+const STEEPEST_BELOW: Line = Line {
+    spread: 4_000_000_000,
+    difference: -1_000_000,
+};
+
+/// A bridge of two ports with versions, which follows the clock at port 1.
+struct Sender {
+    bridge: Listed,
+    newer_local: u64,
+}
+
+impl Sender {
+    /// Has the clock's frames arrive, so that its two samples have given errorTimes, and the newer one is 100 s.
+    fn on(line: &Line, back: u64, versions: [u8; 2], errors: [i32; 2]) -> Sender {
+        let newer_local = 5 << 40;
+        let older_local = moved(newer_local, -i128::from(line.spread));
+        let newer_grand = 100 * SECOND;
+        let older_grand = newer_grand as i128 - i128::from(line.spread) - line.difference;
+        let plan = Plan {
+            ports: 2,
+            back: Some(back),
+            versions: [versions[0], versions[1], 0, 3, 4, 5, 6, 255].map(Version),
+            ..Plan::default()
+        };
+        let mut bridge = Listed::empty();
+        assert_eq!(bridge.setup(&plan), DONE);
+        assert_eq!(bridge.links(3), Ok(2));
+        let heard = |count, version, grand, error| {
+            frame::put_together(&Fields {
+                count,
+                version: Version(version),
+                grand,
+                error,
+                ..Fields::default()
+            })
+        };
+        let first = heard(0, 2, 0, 0);
+        let older = heard(1, 1, older_grand as u128, errors[0]);
+        let newer = heard(2, 2, newer_grand, errors[1]);
+        assert_eq!(bridge.receive(1, &first, older_local), OUT_OF_SEQUENCE);
+        assert_eq!(bridge.receive(1, &older, newer_local), DONE);
+        assert_eq!(bridge.receive(1, &newer, newer_local + 1), DONE);
+        Sender {
+            bridge,
+            newer_local,
+        }
+    }
+
+    /// Sends at a port, so long after the newer sample, and gives the fields or the refusal, which leaves the output alone.
+    fn at(&mut self, port: u8, reach: u64) -> Result<Fields, u8> {
+        let mut bytes = [0xA5; FRAME_LEN];
+        let answer = self.bridge.send(port, self.newer_local + reach, &mut bytes);
+        if answer == DONE {
+            frame::read(&bytes)
+        } else {
+            assert_eq!(bytes, [0xA5; FRAME_LEN]);
+            Err(answer)
+        }
+    }
+
+    /// Sends at a port and gives version, count and errorTime, or the refusal.
+    fn told(&mut self, port: u8) -> Result<(u8, u8, i32), u8> {
+        self.at(port, 0)
+            .map(|fields| (fields.version.0, fields.count, fields.error))
+    }
+}
+
+/// Asserts that, at any departure, what both ports of a bridge send differs in version, errorTime and echo alone, whichever of them has version 2.
+fn assert_sent_alike(line: &Line, back: u64) {
+    let mut sender = Sender::on(line, back, [1, 2], [77, -5]);
+    let mut turned = Sender::on(line, back, [2, 1], [78, -5]);
+    let added = rated(rate(line.difference, line.spread), i128::from(back));
+    let as_two = |fields: Fields| Fields {
+        version: Version(2),
+        error: -5 + added as i32,
+        ..fields
+    };
+    let without_echo = |fields: Fields| Fields {
+        that_tx: 0,
+        that_rx: 0,
+        ..fields
+    };
+    for reach in [0, 1, back.min(1 << 38), (1 << 39) - 1] {
+        let one = sender.at(1, reach).unwrap_or_default();
+        assert_eq!((one.version, one.error), (Version(1), -5));
+        assert_eq!(sender.at(2, reach), Ok(without_echo(as_two(one))));
+        assert_eq!(turned.at(1, reach), Ok(as_two(one)));
+        assert_eq!(turned.at(2, reach), Ok(without_echo(one)));
+    }
+}
+
+/// Two ports of different versions send the same clock with the same grand time.
+#[test]
+fn both_versions_send_the_same_grand_time() {
+    for line in [&RATE_0, &RATE_2, &RATE_MINUS_1, &STEEPEST, &STEEPEST_BELOW] {
+        for back in [0, 1, BACK_DEFAULT, BACK_MOST] {
+            assert_sent_alike(line, back);
+        }
+    }
+}
+
+/// Of two samples the newer one's errorTime is sent, with the older one's at any value.
+#[test]
+fn the_newer_errortime_counts() {
+    for older in [0, i32::MAX, i32::MIN] {
+        let mut sender = Sender::on(&STEEPEST, BACK_MOST, [1, 2], [older, 1_000]);
+        assert_eq!(sender.told(1), Ok((1, 0, 1_000)));
+        assert_eq!(sender.told(2), Ok((2, 0, 137_439_959)));
+    }
+}
+
+/// The errorTimes 2^31-1 and -2^31 are sent in version 2, and one beyond either is refused with 13, which uses up the port's count; version 1 sends on all the while.
+#[test]
+fn errortimes_end_at_32_bits() {
+    for (line, newer, wanted) in [
+        (&STEEPEST, 2_147_483_647 - 137_438_959_i64, Ok(i32::MAX)),
+        (&STEEPEST, 2_147_483_648 - 137_438_959, Err(BEYOND_RANGE)),
+        (&STEEPEST_BELOW, 137_438_960 - 2_147_483_648, Ok(i32::MIN)),
+        (
+            &STEEPEST_BELOW,
+            137_438_960 - 2_147_483_649,
+            Err(BEYOND_RANGE),
+        ),
+        (&STEEPEST, 2_147_483_647, Err(BEYOND_RANGE)),
+        (&STEEPEST_BELOW, -2_147_483_648, Err(BEYOND_RANGE)),
+        (&STEEPEST, -2_147_483_648, Ok(-2_010_044_689)),
+        (&STEEPEST_BELOW, 2_147_483_647, Ok(2_010_044_687)),
+        (&RATE_0, 2_147_483_647, Ok(i32::MAX)),
+        (&RATE_0, -2_147_483_648, Ok(i32::MIN)),
+        (&RATE_2, 2_147_483_647 - 31, Ok(i32::MAX)),
+        (&RATE_2, 2_147_483_647 - 30, Err(BEYOND_RANGE)),
+        (&RATE_MINUS_1, -2_147_483_648 + 16, Ok(i32::MIN)),
+        (&RATE_MINUS_1, -2_147_483_648 + 15, Err(BEYOND_RANGE)),
+    ] {
+        let newer = newer as i32;
+        let mut sender = Sender::on(line, BACK_MOST, [1, 2], [0, newer]);
+        for count in 0..3 {
+            assert_eq!(sender.told(1), Ok((1, count, newer)));
+            assert_eq!(sender.told(2), wanted.map(|error| (2, count, error)));
+        }
+        assert_eq!(sender.bridge.ports[1].record.next_count, 3);
+    }
+}
+
+/// At the end of grand time 13 is of both versions, before it of version 2 alone where the errorTime leaves its bits; 12 comes before either.
+#[test]
+fn both_ends_refuse_with_13() {
+    let newer_grand = |sender: &mut Sender, grand: u128| {
+        let samples = &mut sender.bridge.ports[0].record.samples;
+        for sample in [&mut samples.older, &mut samples.newest] {
+            *sample = sample.map(|sample| Sample {
+                grand: sample.grand + grand - 100 * SECOND,
+                ..sample
+            });
+        }
+    };
+    let mut sender = Sender::on(&RATE_0, BACK_DEFAULT, [1, 2], [0, i32::MAX]);
+    newer_grand(&mut sender, GRAND_END - 1);
+    for port in [1, 2] {
+        let told = |fields: Fields| (fields.grand, fields.error);
+        assert_eq!(sender.at(port, 0).map(told), Ok((GRAND_END - 1, i32::MAX)));
+        assert_eq!(sender.at(port, 1), Err(BEYOND_RANGE));
+        assert_eq!(sender.at(port, 1 << 39), Err(OUT_OF_REACH));
+        let next = sender.at(port, 0).map(|fields| fields.count);
+        assert_eq!(next, Ok(3));
+    }
+    let mut sender = Sender::on(&STEEPEST, BACK_MOST, [1, 2], [0, i32::MAX]);
+    assert!(sender.at(1, 0).is_ok());
+    assert_eq!(sender.at(2, 0), Err(BEYOND_RANGE));
+    assert_eq!(sender.at(2, 1 << 39), Err(OUT_OF_REACH));
+}
+
+/// Makes a bridge whose only port has a version, and has it hear a clock in both versions in turn, whose samples make one line.
+fn hearing(version: u8) -> Listed {
+    let mut bridge = Listed::empty();
+    assert_eq!(bridge.setup(&plan_of(1, [version; 8])), DONE);
+    assert_eq!(bridge.links(1), Ok(1));
+    for (count, version) in (0..).zip([1, 2, 1, 2, 2, 1]) {
+        let time = u64::from(count) << 34;
+        let bytes = frame::put_together(&Fields {
+            version: Version(version),
+            count,
+            grand: u128::from(time),
+            local: time,
+            ..Fields::default()
+        });
+        let wanted = if count == 0 { OUT_OF_SEQUENCE } else { DONE };
+        assert_eq!(bridge.receive(1, &bytes, time), wanted);
+        let samples = bridge.ports[0].record.samples;
+        assert_eq!(samples.both().is_some(), count >= 2);
+    }
+    bridge
+}
+
+/// Frames of both versions are taken in turn at a port of either version, and one of any other version stores nothing.
+#[test]
+fn both_versions_are_taken() {
+    for version in [1, 2] {
+        let mut bridge = hearing(version);
+        let before = bridge.clone();
+        for wrong in wrong_versions() {
+            let bytes = frame::put_together(&versioned(wrong));
+            assert_eq!(bridge.receive(1, &bytes, 0), BAD_VERSION);
+        }
+        assert_eq!(bridge, before);
+    }
+}
+
+/// A listener of version 2 sends what one of version 1 does, but for the version, and is heard as it is.
+#[test]
+fn listeners_have_versions() {
+    let mut bridge = Listed::empty();
+    let versions = [2, 0, 3, 255, 1, 2, 0, 0].map(Version);
+    let plan = Plan {
+        versions,
+        ..LISTENER
+    };
+    assert_eq!(bridge.setup(&plan), DONE);
+    assert_eq!(bridge.links(1), Ok(1));
+    hear(&mut bridge, 1, 5, 0);
+    let sample = |grand, local| {
+        Some(Sample {
+            grand,
+            local,
+            error: i32::MAX,
+        })
+    };
+    bridge.ports[0].record.samples = Samples {
+        newest: sample(100 * SECOND, 1 << 34),
+        older: sample(99 * SECOND, 0),
+    };
+    let mut full = linked(1, None);
+    for (count, departure) in (0..).zip([0, 1 << 34, LOCAL_END - 1]) {
+        let wanted = Fields {
+            version: Version(2),
+            ..listened(count, departure)
+        };
+        assert_eq!(sent(&mut bridge, departure), Ok(wanted));
+        let bytes = frame::put_together(&wanted);
+        let answer = if count == 0 { OUT_OF_SEQUENCE } else { DONE };
+        assert_eq!(full.receive(1, &bytes, departure), answer);
+    }
+    assert_eq!(full.chosen(), Some((1, HOP_NONE)));
+    for wrong in [0, 3, 255] {
+        let mut versions = versions;
+        versions[0] = Version(wrong);
+        let plan = Plan { versions, ..plan };
+        assert_eq!(Listed::empty().setup(&plan), BAD_SETUP);
+    }
+}
+
+/// Gives the place of the port at which a line made a frame, with the frame's fields.
+fn sent_in_lives(line: &[u8], reply: &[u8]) -> Option<(usize, Fields)> {
+    let text = std::str::from_utf8(line.strip_prefix(b"T ")?).ok()?;
+    let port = usize::from_str_radix(text.split(' ').next()?, 16).ok()?;
+    let mut room = [0; FRAME_LEN];
+    let digits = reply.strip_prefix(b"00 ")?.get(..2 * FRAME_LEN)?;
+    let bytes = hex::bytes(digits, &mut room)?;
+    Some((port - 1, frame::read(bytes).ok()?))
+}
+
+/// In every version 2 frame of a full bridge in generated lives, grand time and errorTime less the newer sample's are less than 10 U from the line at the departure itself; in version 1 the errorTime is the newer sample's.
+#[test]
+fn version_2_reaches_the_line() {
+    let mut frames = [0, 0];
+    let played = lives(100_000, 6, &mut |line, reply, bridge| {
+        let Some((place, fields)) = sent_in_lives(line, reply) else {
+            return Ok(());
+        };
+        assert_eq!(fields.version, bridge.ports[place].version);
+        if bridge.settings.profile == Profile::Listener {
+            return Ok(());
+        }
+        let Some((older, newer)) = limits::followed(bridge).both() else {
+            return Err(std::io::Error::other("a frame without two samples"));
+        };
+        let added = i128::from(fields.error) - i128::from(newer.error);
+        if fields.version == Version(1) {
+            assert_eq!(added, 0);
+            frames[0] += 1;
+            return Ok(());
+        }
+        let run = i128::from(spread(newer.local, older.local));
+        let rise = newer.grand as i128 - older.grand as i128;
+        let risen = fields.grand as i128 + added - newer.grand as i128;
+        let off = risen * run - rise * i128::from(spread(fields.local, newer.local));
+        assert!(off.abs() < 10 * run);
+        frames[1] += 1;
+        Ok(())
+    });
+    assert!(played.is_ok());
+    assert!(frames.into_iter().all(|count| count > 1000));
+}
+
+/// Gives a reply to a send without what its version may change: the version and the errorTime.
+fn without_version(reply: &[u8]) -> Vec<u8> {
+    let mut rest = reply.to_vec();
+    if rest.starts_with(b"00 ") {
+        rest[33..35].fill(b'-');
+        rest[123..131].fill(b'-');
+    }
+    rest
+}
+
+/// A bridge whose ports all have the other version answers generated lives alike, but for version and errorTime of its frames, and for sends that the errorTime alone has refused.
+#[test]
+fn versions_change_nothing_else() {
+    let mut turned = Replay {
+        bridge: Listed::empty(),
+    };
+    let mut out = Vec::new();
+    let mut refused = 0;
+    let played = lives(100_000, 7, &mut |line, reply, _| {
+        out.clear();
+        turned.answer(line, &mut out);
+        let one_refused = reply.starts_with(b"0D") != out.starts_with(b"0D");
+        if line.starts_with(b"T ") && one_refused {
+            refused += 1;
+        } else if line.starts_with(b"T ") {
+            assert_eq!(without_version(reply), without_version(&out));
+        } else {
+            assert_eq!(reply, out);
+        }
+        if matches!(line.first(), Some(b'S' | b'P' | b'V')) && reply == b"00" {
+            for port in &mut turned.bridge.ports {
+                port.version = Version(3 - port.version.0);
+            }
+        }
+        Ok(())
+    });
+    assert!(played.is_ok());
+    assert!(refused > 100);
+}
+
+/// A setup with every part said has the profile before and eight versions after what every setup says.
+#[test]
+fn lines_of_versions_have_their_form() {
+    let answer = |line: &str| {
+        let rest = "020000000007 00000000000000000000000001 0 D 0 M M M M M M M M";
+        answered(&line.replace("..", rest))
+    };
+    for taken in [
+        "V 0 1 .. 0101010101010101",
+        "V 0 1 .. 0200FF0304050607",
+        "V 0 8 .. 0201020102010201",
+        "V 1 1 .. 0101010101010101",
+        "V 1 01 .. 02ffFFffFFfFFfFF",
+        "V 0 1 020000000007 00000000000000000000000001 1 D D D d M M M M M 7 02FfFfFfFfFfFfFf",
+    ] {
+        assert_eq!(answer(taken), "00");
+    }
+    for refused in [
+        "V 0 1 .. 0001010101010101",
+        "V 0 1 .. 0302020202020202",
+        "V 0 1 .. FF02020202020202",
+        "V 0 8 .. 0202020202020200",
+        "V 0 8 .. 0102010201020103",
+        "V 0 2 .. 01FF010101010101",
+        "V 0 0 .. 0101010101010101",
+        "V 0 9 .. 0101010101010101",
+        "V 1 2 .. 0101010101010101",
+        "V 1 1 .. 0002020202020202",
+    ] {
+        assert_eq!(answer(refused), "01");
+    }
+    for no_line in [
+        "V",
+        "V 0",
+        "V 0 1 ..",
+        "V 1 ..",
+        "V 1 .. 0101010101010101",
+        "V 2 1 .. 0101010101010101",
+        "V 00 1 .. 0101010101010101",
+        "V 01 1 .. 0101010101010101",
+        "V D 1 .. 0101010101010101",
+        "V - 1 .. 0101010101010101",
+        "V  1 .. 0101010101010101",
+        "V 0 1 .. 01010101010101",
+        "V 0 1 .. 010101010101010101",
+        "V 0 1 .. 010101010101010",
+        "V 0 1 .. 01010101010101010",
+        "V 0 1 .. 0101010101010g01",
+        "V 0 1 .. -",
+        "V 0 1 .. D",
+        "V 0 1 .. 1",
+        "V 0 1 .. ",
+        "V 0 1 .. 0101010101010101 ",
+        "V 0 1 .. 0101010101010101 01",
+        "V 0 1 .. 01 01 01 01 01 01 01 01",
+        "v 0 1 .. 0101010101010101",
+        "VV 0 1 .. 0101010101010101",
+        " V 0 1 .. 0101010101010101",
+        "V 0 100 .. 0101010101010101",
+        "S 0 1 .. 0101010101010101",
+        "S 1 .. 0101010101010101",
+        "P 1 .. 0101010101010101",
+    ] {
+        assert_eq!(answer(no_line), "0E");
+    }
+}
+
+/// The version is the last thing that a read prints, and the last but one that a write is given.
+#[test]
+fn lines_of_frames_have_versions() {
+    let fields = "020000000001 00000000000000000000000005 3 4 7 0 8 9 A FFFFFFF5";
+    let printed = "020000000001 00000000000000000000000005 03 04 00000000070000000000";
+    let times = "000000000008 000000000009 00000000000A FFFFFFF5";
+    for version in [Version(1), Version(2)] {
+        let mut digits = Vec::new();
+        hex::put_bytes(&mut digits, &frame::put_together(&versioned(version)));
+        let digits = String::from_utf8_lossy(&digits).into_owned();
+        let version = version.0;
+        assert_eq!(
+            answered(&format!("F {digits}")),
+            format!("00 {printed} {times} {version:02X}")
+        );
+        for written in ["", "0", "00000000000000"] {
+            assert_eq!(
+                answered(&format!("W {fields} {written}{version} 40")),
+                format!("00 {digits}")
+            );
+        }
+    }
+    let filled = "A5".repeat(64);
+    for wrong in ["0", "3", "ff", "80", "0000000000000003"] {
+        let write = |length: &str| answered(&format!("W {fields} {wrong} {length}"));
+        assert_eq!(write("40"), format!("06 {filled}"));
+        assert_eq!(write("0"), "04 -");
+        assert_eq!(write("81"), "0E");
+    }
+    for no_version in ["", "100", "-", "D1", "1 1", "00000000000000001"] {
+        let line = format!("W {fields} {no_version} 40");
+        let wanted = if no_version == "D1" { "06" } else { "0E" };
+        assert_eq!(answered(&line)[..2], *wanted);
+    }
+    assert_eq!(answered(&format!("W {fields} 40")), "0E");
+}
+
+/// The count of versions wants each way in which a setup, a send, an arrival, a read, a write and a comparison can fare by its version.
+#[test]
+fn census_misses_versions() {
+    let mut census = VersionCensus::default();
+    let mut bridge = Sender::on(&STEEPEST, BACK_MOST, [1, 2], [0, i32::MAX]).bridge;
+    assert_eq!(census.missing().len(), 57);
+    let station = "020000000007 00000000000000000000000001 0 D D M M M M M M M M";
+    let mut play = |line: String, bridge: &mut Listed| {
+        let mut replay = Replay {
+            bridge: bridge.clone(),
+        };
+        let mut out = Vec::new();
+        replay.answer(line.as_bytes(), &mut out);
+        census.count(line.as_bytes(), &out, &replay.bridge);
+        *bridge = replay.bridge;
+        census.missing()
+    };
+    assert_eq!(
+        play(format!("T 1 {:X} 40", 5_u64 << 40), &mut bridge).len(),
+        55
+    );
+    assert_eq!(
+        play(format!("T 2 {:X} 40", 5_u64 << 40), &mut bridge).len(),
+        54
+    );
+    let missing = play(String::from("V 0 1"), &mut bridge);
+    assert!(!missing.contains(&String::from("sent 1 where 2 is refused")));
+    assert!(!missing.contains(&String::from("sent 2 refused above")));
+    assert!(missing.contains(&String::from("sent 2 refused below")));
+    assert_eq!(missing.len(), 53);
+    let mut other = Listed::empty();
+    let refused = format!("V 0 2 {station} 0103000000000000");
+    assert_eq!(play(refused, &mut other).len(), 51);
+    let two_wrong = format!("V 0 2 {station} 0300000000000000");
+    assert_eq!(play(two_wrong, &mut other).len(), 51);
+    let mixed = format!("V 0 2 {station} 0102000000000000");
+    let missing = play(mixed, &mut other);
+    assert_eq!(missing.len(), 49);
+    assert!(!missing.contains(&String::from("set up wrong beyond")));
+    assert!(missing.contains(&String::from("set up refused first")));
 }

@@ -17,7 +17,7 @@ use Rattle.port.specs.Send.{sendingOf, sendingDone, sendingBytes}
 use Rattle.port.specs.declared.Sending.{Sending}
 use Rattle.bridge.specs.Table.{portAt, mostPorts, samplesOfChoice}
 use Rattle.bridge.specs.Arguments.{portRefusal, sendRefusal}
-use Rattle.bridge.specs.State.{TypedSetup, Lawful, storesPort}
+use Rattle.bridge.specs.State.{versionAt, TypedSetup, Lawful, storesPort}
 use Rattle.bridge.specs.Setup.{setupOf}
 use Rattle.bridge.specs.Receive.{settingAt, receiveFieldsOf, receiveBy, receiveOf}
 use Rattle.bridge.specs.Chosen.{chosenOf}
@@ -47,7 +47,7 @@ module _ (choice : Candidate) (b : Bridge) where
 
   -- Send: what is sent is for this choice, by its samples
   abbrev sent : ℕ → ℕ → Sending
-  sent i t = sendingOf choice (samplesOfChoice choice (b .clock) (b .ports)) (b .setup .sender) (record { 0 = t }) (portAt (b .ports) i)
+  sent i t = sendingOf choice (samplesOfChoice choice (b .clock) (b .ports)) (b .setup .sender) (versionAt b i) (record { 0 = t }) (portAt (b .ports) i)
 
   pub sent-by : (port t room : ℕ) → sendRefusal (b .setup .n) (b .links) port t room ≡ 0
       → sendBy choice b port t room ≡ storesPort b (port - 1) (sendingDone (sent (port - 1) t) (portAt (b .ports) (port - 1)))

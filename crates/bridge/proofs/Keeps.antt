@@ -6,7 +6,7 @@ use Prim.Native.Nat.{ℕ, _-_, _^_, _<_}
 use native.Mathlib.Omega.{arith}
 use borrow.Author.Tests.{leb-true, leb-false, ltb-true, eqb-true}
 use lib.Dec.{leb, ltb, eqb, lit<, lit≤}
-use lib.ListN.{length, length-set}
+use lib.ListN.{length, take, length-set}
 use lib.Pow.{pow-pos}
 use Rattle.numbers.specs.Bytes.{Bytes}
 use Rattle.times.specs.Times.{circle, counts}
@@ -24,7 +24,7 @@ use Rattle.port.specs.declared.Port.{Port}
 use Rattle.port.specs.declared.OwnClock.{OwnClock}
 use Rattle.bridge.specs.Table.{each, portAt, mostPorts, relinkedPort}
 use Rattle.bridge.specs.Arguments.{bit, portRefusal, sendRefusal, ownClockRefusal, maskBeyond}
-use Rattle.bridge.specs.Fits.{leastTimeout, greatestTimeout, delaysFit, listenerPorts, rangesFit, profileFits, setupFits, plainSetup, noSetup}
+use Rattle.bridge.specs.Fits.{leastTimeout, greatestTimeout, all, settingFits, listenerPorts, rangesFit, profileFits, setupFits, plainSetup, noSetup}
 use Rattle.bridge.specs.declared.Setup.{Setup}
 use Rattle.bridge.specs.State.{TypedSetup, ListenerSetup, LawfulSetup, Lawful, withPort, withLinks, withClock}
 use Rattle.bridge.specs.Setup.{freshOf, setupOf}
@@ -101,13 +101,14 @@ fresh-lawful s h = record {
 pub plain-typed : (n timeout back : ℕ) → TypedSetup (plainSetup n timeout back)
 plain-typed n timeout back = record {
   settings-all = refl;
+  versions-all = refl;
   address = record { byte0 = lit< tt; byte1 = lit< tt; byte2 = lit< tt; byte3 = lit< tt; byte4 = lit< tt; byte5 = lit< tt };
   own-fits = record { priority1 = lit< tt; source = lit< tt; variance = lit< tt; priority2 = lit< tt; clock = lit< tt };
 }
 
 -- that of no ports
 none-lawful : LawfulSetup noSetup
-unfolding delaysFit
+unfolding all
 none-lawful = record {
   typed = plain-typed 0 0 0;
   ports-most = lit≤ tt;
@@ -115,6 +116,7 @@ none-lawful = record {
   back-small = lit< tt;
   listener-fits = λ l. let z : _≡_ {A = ℕ} 0 1 = cc in absurd (omega arith);
   delays-fit = refl;
+  versions-fit = refl;
 }
 
 -- a listener that Setup takes has one port, is not capable and has backTime 0
@@ -141,13 +143,15 @@ setup-lawful s typed =
     let c = both-hold (leb leastTimeout (s .timeout)) _ (b .1) in
     let d = both-hold (leb (s .timeout) greatestTimeout) _ (c .1) in
     let f = both-hold (ltb (s .sender .back) longestElapsed) _ (d .1) in
+    let v = both-hold (all settingFits (take (s .n) (s .settings))) _ (f .1) in
     fresh-lawful s (record {
       typed = typed;
       ports-most = leb-true _ _ (b .0);
       timeout-most = leb-true _ _ (d .0);
       back-small = ltb-true _ _ (f .0);
       listener-fits = listener-taken s (g .0);
-      delays-fit = f .1;
+      delays-fit = v .0;
+      versions-fit = v .1;
     }))
     (λ _. fresh-lawful noSetup none-lawful)
 

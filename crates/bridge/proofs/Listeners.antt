@@ -22,13 +22,13 @@ use Rattle.choice.specs.declared.Candidate.the-variants.{Clock}
 use Rattle.frame.specs.Frame.{frameLength}
 use Rattle.frame.specs.declared.Fields.{Fields}
 use Rattle.frame.specs.declared.Reading.the-variants as Readings
-use Rattle.port.specs.Send.{sendingBy, clockSending, sendingNo, listenerHop}
+use Rattle.port.specs.Send.{restOf, sendingBy, clockSending, sendingNo, listenerHop}
 use Rattle.port.specs.declared.Profile.the-variants.{Full, Listener}
 use Rattle.port.specs.declared.Port.{Port}
 use Rattle.port.specs.declared.Sending.the-variants.{Refused}
 use Rattle.bridge.specs.Table.{portAt, mostPorts, samplesAt, samplesOfChoice}
 use Rattle.bridge.specs.Arguments.{portRefusal, sendRefusal}
-use Rattle.bridge.specs.State.{TypedSetup, ListenerSetup, Lawful, FullBridge, Listens, answers}
+use Rattle.bridge.specs.State.{versionAt, TypedSetup, ListenerSetup, Lawful, FullBridge, Listens, answers}
 use Rattle.bridge.specs.declared.Setup.{Setup}
 use Rattle.bridge.specs.Setup.{setupOf}
 use Rattle.bridge.specs.Own.{ownClockOf}
@@ -85,7 +85,7 @@ module _ (b : Bridge) (port t : ℕ) (listens : Listens b) where
   -- whatever was heard, kept or is old, it sends a frame
   listens-frame : sendingNo (sendingAt (chosenOf b) b (port - 1) (record { 0 = t })) ≡ 0
   unfolding sendingAt
-  listens-frame = ap sendingNo (sym (send-as (chosenOf b) (chosenSamples b) (b .setup .sender) (record { 0 = t }) (portAt (b .ports) (port - 1)) Listener listens))
+  listens-frame = ap sendingNo (sym (send-as (chosenOf b) (chosenSamples b) (b .setup .sender) (versionAt b (port - 1)) (record { 0 = t }) (portAt (b .ports) (port - 1)) Listener listens))
 
   -- it is answered by the port, the local time, the link and the room alone
   pub listener-answer : (room : ℕ) → sendOf b port t room .answer ≡ sendRefusal (b .setup .n) (b .links) port t room
@@ -182,7 +182,7 @@ pub listeners-few : (s : Setup) (cs : List Call) (i port t room : ℕ) {p : Prec
 unfolding sendOf sendingAt sentOf
 listeners-few s cs i port t room {p} {h} full below heard chosen clear =
     if-when (λ (d : Done). d .answer ≡ 11) (eqb (sendRefusal (b .setup .n) (b .links) port t room) 0)
-    (λ _. ap sendingNo (sym (send-as (chosenOf b) (chosenSamples b) (b .setup .sender) (record { 0 = t }) held Full full) ∙ for-clock))
+    (λ _. ap sendingNo (sym (send-as (chosenOf b) (chosenSamples b) (b .setup .sender) (versionAt b (port - 1)) (record { 0 = t }) held Full full) ∙ for-clock))
     (λ e. absurd (eqb-false _ _ e clear))
   where
     b : Bridge
@@ -191,8 +191,8 @@ listeners-few s cs i port t room {p} {h} full below heard chosen clear =
     held : Port
     held = portAt (b .ports) (port - 1)
 
-    for-clock : clockSending (chosenOf b) (chosenSamples b) (b .setup .sender) (record { 0 = t }) held ≡ Refused 11
+    for-clock : clockSending (chosenOf b) (chosenSamples b) (b .setup .sender) (versionAt b (port - 1)) (record { 0 = t }) held ≡ Refused 11
     for-clock =
-        ap (λ (c : Candidate). clockSending c (chosenSamples b) (b .setup .sender) (record { 0 = t }) held) chosen
-        ∙ ap (λ (e : Ends). sendingBy (sentThrough e (record { 0 = t }) (b .setup .sender .back)) (b .setup .sender) p h (record { 0 = t }) held)
+        ap (λ (c : Candidate). clockSending c (chosenSamples b) (b .setup .sender) (versionAt b (port - 1)) (record { 0 = t }) held) chosen
+        ∙ ap (λ (e : Ends). sendingBy (sentThrough e (record { 0 = t }) (b .setup .sender .back) (restOf (versionAt b (port - 1)) (b .setup .sender .back))) (b .setup .sender) (versionAt b (port - 1)) p h (record { 0 = t }) held)
         (listeners-no-line s cs i below heard chosen)

@@ -7,7 +7,7 @@ use Rattle.frame.specs.Literals.{frameLiterals}
 use Rattle.port.specs.Literals.{recordLiterals}
 use Rattle.bridge.specs.Table.{samplesAt}
 use Rattle.bridge.specs.Arguments.{portRefusal, sendRefusal, ownClockRefusal, maskBeyond}
-use Rattle.bridge.specs.Fits.{delayFits, delaysFit, rangesFit, profileFits, setupFits}
+use Rattle.bridge.specs.Fits.{delayFits, all, rangesFit, profileFits, setupFits}
 use Rattle.bridge.specs.Setup.{setupOf}
 use Rattle.bridge.specs.Links.{linksOf}
 use Rattle.bridge.specs.Age.{ageOf}
@@ -19,7 +19,7 @@ use Rattle.port.proofs.Literals.{records-written}
 
 -- the part that stands in this crate
 bridge-written : AsWritten bridgeLiterals
-unfolding bridgeLiterals endsOf driftOf samplesAt portRefusal sendRefusal ownClockRefusal maskBeyond delayFits delaysFit rangesFit profileFits setupFits setupOf linksOf ageOf driftAt
+unfolding bridgeLiterals endsOf driftOf samplesAt portRefusal sendRefusal ownClockRefusal maskBeyond delayFits all rangesFit profileFits setupFits setupOf linksOf ageOf driftAt
 bridge-written = refl
 
 -- the whole table

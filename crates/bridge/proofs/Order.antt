@@ -6,7 +6,7 @@ use mathlib.Core.Logic.{_⊎_, inl, inr, ⊎-elim}
 use Prim.Native.Nat.{ℕ, zero, suc, _+_, _-_, _/_, _^_, _<_, _≤_}
 use native.Mathlib.Omega.{arith}
 use lib.Dec.{ltb, eqb}
-use lib.ListN.{take}
+use lib.ListN.{getD, take}
 use lib.Pow.{pow-lt, pow-mono, shl-shr, shr-lt, shr-mono}
 use borrow.Author.Tests.{eqb-true, eqb-false, leb-true, leb-false, ltb-true, ltb-false}
 use Rattle.refusals.specs.Order.{Condition, given, Lowest, First, nowhere}
@@ -19,17 +19,17 @@ use Rattle.samples.specs.Keep.{endsOf}
 use Rattle.samples.specs.declared.Ends.{Ends}
 use Rattle.samples.specs.declared.Ends.the-variants.{Few, Both}
 use Rattle.choice.specs.Choose.{chosenHop}
-use Rattle.frame.specs.Frame.{fieldsOf}
+use Rattle.frame.specs.Frame.{isVersion, fieldsOf}
 use Rattle.frame.specs.Read.{rowsOf, readRefusal, readAs, readOf}
-use Rattle.frame.specs.Order.{readConditions}
+use Rattle.frame.specs.Order.{NoVersion, readConditions}
 use Rattle.port.specs.Order.{departureConditions}
 use Rattle.port.specs.declared.Profile.{Profile}
 use Rattle.port.specs.declared.Profile.the-variants.{Full, Listener}
 use Rattle.port.specs.declared.Setting.{Setting}
 use Rattle.bridge.specs.Arguments.{bit, hasLink, onPort, portRefusal, sendRefusal, ownClockRefusal, maskBeyond}
 use Rattle.bridge.specs.Table.{portAt, samplesAt}
-use Rattle.bridge.specs.Fits.{delayFits, delaysFit, rangesFit, profileFits, setupFits}
-use Rattle.bridge.specs.State.{Lawful, answers, refusedOr}
+use Rattle.bridge.specs.Fits.{delayFits, all, settingFits, measuredSetting, rangesFit, profileFits, setupFits}
+use Rattle.bridge.specs.State.{Lawful, versionAt, answers, refusedOr}
 use Rattle.bridge.specs.Setup.{freshOf, noBridge, setupOf}
 use Rattle.bridge.specs.Links.{linksOf, linkNo}
 use Rattle.bridge.specs.Own.{ownClockOf}
@@ -38,13 +38,13 @@ use Rattle.bridge.specs.Age.{ageOf}
 use Rattle.bridge.specs.Chosen.{chosenOf}
 use Rattle.bridge.specs.Send.{chosenSamples, sendingAt, sendOf}
 use Rattle.bridge.specs.Drift.{driftAt}
-use Rattle.bridge.specs.Order.{Above, FixedAbove, ListenerOtherwise, setupConditions, BitBeyond, linksConditions, ageConditions, driftConditions, ownClockConditions, portConditions, heardConditions, receiveConditions, sendConditions}
+use Rattle.bridge.specs.Order.{Above, ListenerOtherwise, setupConditions, BitBeyond, linksConditions, ageConditions, driftConditions, ownClockConditions, portConditions, heardConditions, receiveConditions, sendConditions}
 use Rattle.bridge.specs.declared.Setup.{Setup}
 use Rattle.bridge.specs.declared.Bridge.{Bridge}
 use Rattle.bridge.specs.declared.Done.{Done}
 use Rattle.bridge.specs.declared.Linked.{Linked}
 use Rattle.refusals.proofs.Order.{ascends, first-lowest, same-number, Tells, Fails, less-tells, most-tells, less-fails, most-fails, same-fails, first-if, fails-same, Checks, check, check-both, checked, either-fails, first-stays, first-more}
-use Rattle.frame.proofs.Order.{first-unless, read-order}
+use Rattle.frame.proofs.Order.{first-unless, version-fails, read-order}
 use Rattle.port.proofs.Order.{frame-order, reading-order, departure-order}
 use Rattle.bridge.proofs.TableLaws.{link-beyond, chosen-lawful}
 
@@ -56,22 +56,26 @@ unfolding delayFits
 delay-fails Measured = record { is = true≢false; not = λ _ h. h }
 delay-fails (Fixed delay) = most-fails delay (2 ^ 30)
 
--- and so for the first n ports
-delays-fail : (n : ℕ) (settings : List Setting) → Fails (delaysFit (take n settings)) (FixedAbove n settings)
-unfolding delaysFit
-delays-fail zero settings = record { is = λ e. absurd (true≢false e); not = λ _ h. omega (arith, h .1) }
-delays-fail (suc n) [] = record { is = λ e. absurd (true≢false e); not = λ _ h. h .2 }
-delays-fail (suc n) (s ∷ settings) = fails-same (⊎-elim at-first at-next) split (either-fails (delay-fails (s .delay)) (delays-fail n settings))
+-- a test fails of the first n elements where it does of one; the plain one, which stands for one that there is not, passes it
+all-fail : {A : Type 0} (test : A → Bool) (Other : A → Type 0) (plain : A) → ((a : A) → Fails (test a) (Other a)) → (Other plain → ⊥)
+    → (n : ℕ) (l : List A) → Fails (all test (take n l)) ((i : ℕ) × (i < n) × Other (getD l i plain))
+unfolding all
+all-fail test Other plain fails passes zero l = record { is = λ e. absurd (true≢false e); not = λ _ h. omega (arith, h .1) }
+all-fail test Other plain fails passes (suc n) [] = record { is = λ e. absurd (true≢false e); not = λ _ h. passes (h .2) }
+all-fail {A} test Other plain fails passes (suc n) (a ∷ l) = fails-same (⊎-elim at-first at-next) split (either-fails (fails a) (all-fail test Other plain fails passes n l))
   where
-    at-first : Above (s .delay) → FixedAbove (suc n) (s ∷ settings)
+    Some : ℕ → List A → Type 0
+    Some n l = (i : ℕ) × (i < n) × Other (getD l i plain)
+
+    at-first : Other a → Some (suc n) (a ∷ l)
     at-first h = (0, omega arith, h)
 
-    at-next : FixedAbove n settings → FixedAbove (suc n) (s ∷ settings)
-    at-next (i, l, h) = (suc i, omega (arith, l), h)
+    at-next : Some n l → Some (suc n) (a ∷ l)
+    at-next (i, k, h) = (suc i, omega (arith, k), h)
 
-    split : FixedAbove (suc n) (s ∷ settings) → Above (s .delay) ⊎ FixedAbove n settings
-    split (zero, l, h) = inl h
-    split (suc i, l, h) = inr (i, omega (arith, l), h)
+    split : Some (suc n) (a ∷ l) → Other a ⊎ Some n l
+    split (zero, k, h) = inl h
+    split (suc i, k, h) = inr (i, omega (arith, k), h)
 
 -- a profile that does not fit is a listener's, set up otherwise
 profile-fails : (profile : Profile) (n : ℕ) (capable : Bool) (back : ℕ) → Fails (profileFits profile n capable back) (ListenerOtherwise profile n capable back)
@@ -93,7 +97,8 @@ setup-checks s =
     (check-both (most-fails (2 ^ 36) (s .timeout))
     (check-both (most-fails (s .timeout) (2 ^ 46))
     (check-both (fails-same (λ h. omega (arith, h)) (λ h. omega (arith, h)) (less-fails (s .sender .back) (2 ^ 39)))
-    (check (delays-fail (s .n) (s .settings))))))))
+    (check-both (all-fail settingFits (λ (x : Setting). Above (x .delay)) measuredSetting (λ x. delay-fails (x .delay)) (λ h. h) (s .n) (s .settings))
+    (check (all-fail isVersion NoVersion 1 version-fails (λ other. other .0 refl) (s .n) (s .versions)))))))))
 
 -- Setup refuses with 1 where one of its conditions holds, and else not
 pub setup-lowest : (s : Setup) → Lowest (setupConditions s) (setupOf s .answer)
@@ -207,7 +212,7 @@ send-ascends : (b : Bridge) (port t room : ℕ) → ascends 1 (sendConditions b 
 send-ascends b port t room = by (b .setup .sender .profile)
   where
     by : (profile : Profile)
-        → ascends 1 (portConditions (b .setup .n) (b .links) port t ++ (given 4 (room < 64) ∷ departureConditions profile (chosenOf b) (chosenSamples b) (record { 0 = t }) (b .setup .sender .back))) ≡ true
+        → ascends 1 (portConditions (b .setup .n) (b .links) port t ++ (given 4 (room < 64) ∷ departureConditions profile (chosenOf b) (chosenSamples b) (versionAt b (port - 1)) (record { 0 = t }) (b .setup .sender .back))) ≡ true
     by Full = refl
     by Listener = refl
 
@@ -218,5 +223,5 @@ send-lowest b port t room l =
     first-lowest 1 (send-ascends b port t room)
     (refused-order b _ _ (portConditions (b .setup .n) (b .links) port t ++ (given 4 (room < 64) ∷ [])) _ refl
     (on-port-order (b .setup .n) (b .links) port t (first-unless (most-fails 64 room) (nowhere refl)))
-    (departure-order (chosenOf b) (chosenSamples b) (b .setup .sender) (record { 0 = t }) (portAt (b .ports) (port - 1))
+    (departure-order (chosenOf b) (chosenSamples b) (b .setup .sender) (versionAt b (port - 1)) (record { 0 = t }) (portAt (b .ports) (port - 1))
     (chosen-lawful (chosenOf b) (b .clock) (b .ports) (l .clock-lawful) (l .ports-lawful)) (l .setup-lawful .back-small)))

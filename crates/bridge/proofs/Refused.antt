@@ -24,7 +24,7 @@ use Rattle.bridge.specs.Table.{portAt, samplesAt}
 use Rattle.bridge.specs.Arguments.{portRefusal, sendRefusal, ownClockRefusal, maskBeyond}
 use Rattle.bridge.specs.Fits.{setupFits}
 use Rattle.bridge.specs.declared.Setup.{Setup}
-use Rattle.bridge.specs.State.{answers, storesPort, storesClock}
+use Rattle.bridge.specs.State.{versionAt, answers, storesPort, storesClock}
 use Rattle.bridge.specs.Setup.{setupOf}
 use Rattle.bridge.specs.Links.{linksOf}
 use Rattle.bridge.specs.Own.{ownClockOf}
@@ -50,7 +50,7 @@ read-answers s = by (readRefusal s) (read-is (λ (k : ℕ). (k ≡ 0) ⊎ From 4
 
 pub write-answers : (f : Fields) (out : List ℕ) → WriteAnswers out (writeRefusal f (length out)) (writtenOf f out)
 unfolding writtenOf
-write-answers f out = write-is (λ (k : ℕ). WriteAnswers out k (writtenAs k f out)) f (length out) (inr (inl refl, refl)) (inr (inr refl, refl)) (inl refl)
+write-answers f out = write-is (λ (k : ℕ). WriteAnswers out k (writtenAs k f out)) f (length out) (inr (inl refl, refl)) (inr (inr (inl refl), refl)) (inr (inr (inr refl), refl)) (inl refl)
 
 pub setup-answers : (s : Setup) → SetupAnswers (setupOf s)
 unfolding setupOf
@@ -90,7 +90,7 @@ unfolding sendOf sendBytes sendingAt
 send-answers b port t out =
     let held = portAt (b .ports) (port - 1) in
     if-both (SendAnswers b port out) (eqb (sendRefusal (b .setup .n) (b .links) port t (length out)) 0)
-    (λ _. sending-is (chosenOf b) (chosenSamples b) (b .setup .sender) (record { 0 = t }) held
+    (λ _. sending-is (chosenOf b) (chosenSamples b) (b .setup .sender) (versionAt b (port - 1)) (record { 0 = t }) held
     (λ (s : Sending). SendAnswers b port out (storesPort b (port - 1) (sendingDone s held)) (sendingBytes s out)) (λ k _ l g. inr (inr ((l, g), refl, refl))) (λ _ _ _ _ _ _ _ _. inl refl) (λ _. inl refl))
     (λ _. send-is (λ (k : ℕ). SendAnswers b port out (answers k b) out) (b .setup .n) (b .links) port t (length out)
     (inr (inl ((omega arith, omega arith), refl, refl))) (inr (inl ((omega arith, omega arith), refl, refl))) (inr (inl ((omega arith, omega arith), refl, refl))) (inl refl))

@@ -1,6 +1,7 @@
 -- What Send writes, Read reads: where Send answers 0, the first 64 bytes of the output are read as exactly the fields of the rules, and what a neighbour
--- makes of them is what Receive makes of those fields. And what hopCount and frameCount are in them.
+-- makes of them is what Receive makes of those fields. And what version, hopCount and frameCount are in them.
 use mathlib.Core.Path.{_≡_, refl, sym, ap, _∙_, subst}
+use mathlib.Core.Bool.{true}
 use mathlib.Core.List.{List}
 use mathlib.Core.Logic.{_⊎_, inl, inr}
 use Prim.Native.Nat.{ℕ, _-_, _<_, _≤_}
@@ -13,7 +14,7 @@ use Rattle.times.specs.Times.{counts}
 use Rattle.choice.specs.Rank.{CandidateFits}
 use Rattle.choice.specs.declared.Precedence.{Precedence}
 use Rattle.choice.specs.declared.Candidate.the-variants.{Clock}
-use Rattle.frame.specs.Frame.{frameLength}
+use Rattle.frame.specs.Frame.{frameLength, isVersion}
 use Rattle.frame.specs.Read.{readOf}
 use Rattle.frame.specs.Write.{writeRefusal, bytesOf, writtenOf}
 use Rattle.frame.specs.Demands.{Typed}
@@ -25,7 +26,7 @@ use Rattle.port.specs.declared.Sending.{Sending}
 use Rattle.port.specs.declared.Sending.the-variants.{Frame}
 use Rattle.bridge.specs.Table.{portAt}
 use Rattle.bridge.specs.Arguments.{portRefusal, sendRefusal}
-use Rattle.bridge.specs.State.{Lawful, FullBridge, Listens, storesPort}
+use Rattle.bridge.specs.State.{versionAt, Lawful, FullBridge, Listens, storesPort}
 use Rattle.bridge.specs.Receive.{receiveFieldsOf, receiveOf}
 use Rattle.bridge.specs.Chosen.{chosenOf}
 use Rattle.bridge.specs.Send.{chosenSamples, sendingAt, sendOf, sendBytes}
@@ -33,11 +34,11 @@ use Rattle.bridge.specs.Demands.{From, SentFields}
 use Rattle.bridge.specs.declared.Bridge.{Bridge}
 use Rattle.bridge.specs.declared.Done.{Done}
 use Rattle.numbers.proofs.Branches.{if-both}
-use Rattle.frame.proofs.FrameLaws.{filled}
-use Rattle.frame.proofs.Trip.{written-read, hop-byte, count-byte}
-use Rattle.port.proofs.PortLaws.{SentFor, sending-frame, sending-for, sending-listens, sending-count, sending-written, sending-typed, received-is}
+use Rattle.frame.proofs.FrameLaws.{version-small, filled}
+use Rattle.frame.proofs.Trip.{written-read, version-byte, hop-byte, count-byte}
+use Rattle.port.proofs.PortLaws.{SentFor, sending-frame, sending-for, sending-listens, sending-version, sending-count, sending-written, sending-typed, received-is}
 use Rattle.bridge.proofs.CheckLaws.{Ready, send-ready}
-use Rattle.bridge.proofs.TableLaws.{chosen-lawful}
+use Rattle.bridge.proofs.TableLaws.{all-each}
 use Rattle.bridge.proofs.StateLaws.{receive-read}
 use Rattle.bridge.proofs.Least.{chosen-member}
 use Rattle.bridge.proofs.Numbered.{candidates-fit}
@@ -56,7 +57,7 @@ unfolding sendOf sendBytes sendingAt
 wrote b port t out =
     if-both (λ (d : Done) (left : List ℕ). d .answer ≡ 0 → Wrote b port t out left) (eqb (sendRefusal (b .setup .n) (b .links) port t (length out)) 0)
     (λ q z.
-    let f = sending-frame (chosenOf b) (chosenSamples b) (b .setup .sender) (record { 0 = t }) (portAt (b .ports) (port - 1)) z in
+    let f = sending-frame (chosenOf b) (chosenSamples b) (b .setup .sender) (versionAt b (port - 1)) (record { 0 = t }) (portAt (b .ports) (port - 1)) z in
     record {
       fields = f .0;
       ready = send-ready (b .setup .n) (b .links) port t (length out) (eqb-true _ _ q);
@@ -67,20 +68,29 @@ wrote b port t out =
 
 -- a frame that a full bridge's port sends is one for the chosen clock
 abbrev pub SentAt : Bridge → ℕ → ℕ → Fields → Type 0
-SentAt b i t f = SentFor (chosenOf b) (chosenSamples b) (b .setup .sender) (record { 0 = t }) (portAt (b .ports) i) f
+SentAt b i t f = SentFor (chosenOf b) (chosenSamples b) (b .setup .sender) (versionAt b i) (record { 0 = t }) (portAt (b .ports) i) f
 
 pub sent-at : (b : Bridge) (i t : ℕ) (f : Fields) → sendingAt (chosenOf b) b i (record { 0 = t }) ≡ Frame f → FullBridge b → SentAt b i t f
 unfolding sendingAt
-sent-at b i t f e full = sending-for (chosenOf b) (chosenSamples b) (b .setup .sender) (record { 0 = t }) (portAt (b .ports) i) f e full
+sent-at b i t f e full = sending-for (chosenOf b) (chosenSamples b) (b .setup .sender) (versionAt b i) (record { 0 = t }) (portAt (b .ports) i) f e full
 
--- ---- hopCount and frameCount
+-- ---- version, hopCount and frameCount
 
 module _ {b : Bridge} {port t : ℕ} {out left : List ℕ} (w : Wrote b port t out left) where
+  -- byte 15 is the port's version
+  pub wrote-version : isVersion (versionAt b (port - 1)) ≡ true → numberAt left 15 1 ≡ versionAt b (port - 1)
+  unfolding sendingAt
+  wrote-version known =
+      let same = sending-version (chosenOf b) (chosenSamples b) (b .setup .sender) (versionAt b (port - 1)) (record { 0 = t }) (portAt (b .ports) (port - 1)) (w .fields) (w .sending) in
+      ap (λ (l : List ℕ). numberAt l 15 1) (w .bytes)
+      ∙ version-byte (w .fields) (drop frameLength out) (subst (λ (n : ℕ). n < 256) (sym same) (version-small (versionAt b (port - 1)) known))
+      ∙ same
+
   -- byte 30 is the port's next frameCount
   pub wrote-count : portAt (b .ports) (port - 1) .count < counts → numberAt left 30 1 ≡ portAt (b .ports) (port - 1) .count
   unfolding sendingAt
   wrote-count h =
-      let same = sym (sending-count (chosenOf b) (chosenSamples b) (b .setup .sender) (record { 0 = t }) (portAt (b .ports) (port - 1)) (w .fields) (w .sending)) in
+      let same = sym (sending-count (chosenOf b) (chosenSamples b) (b .setup .sender) (versionAt b (port - 1)) (record { 0 = t }) (portAt (b .ports) (port - 1)) (w .fields) (w .sending)) in
       ap (λ (l : List ℕ). numberAt l 30 1) (w .bytes) ∙ count-byte (w .fields) (drop frameLength out) (subst (λ (n : ℕ). n < counts) same h) ∙ sym same
 
   -- a full bridge's byte 29 is the chosen clock's held hop
@@ -94,11 +104,21 @@ module _ {b : Bridge} {port t : ℕ} {out left : List ℕ} (w : Wrote b port t o
 
 -- ---- of a lawful state
 
+-- a port that sends has a version that there is
+pub version-known : (b : Bridge) (port t : ℕ) → Lawful b → Ready (b .setup .n) port t → isVersion (versionAt b (port - 1)) ≡ true
+version-known b port t h r =
+    let s = h .setup-lawful in
+    all-each isVersion (b .setup .versions) (b .setup .n) (port - 1) 0 (omega (arith, s .ports-most, s .typed .versions-all)) (s .versions-fit) (omega (arith, r .low, r .high))
+
 -- each part of the chosen clock has its bits
 pub chosen-fits : (b : Bridge) → Lawful b → CandidateFits (chosenOf b)
 chosen-fits b h = candidates-fit b h (chosenOf b) (chosen-member b)
 
 module _ (b : Bridge) (port t : ℕ) (out : List ℕ) (lawful : Lawful b) (sent : sendOf b port t (length out) .answer ≡ 0) where
+  -- byte 15 of a frame that was sent is the port's version
+  pub sent-frame-version : numberAt (sendBytes b port t out) 15 1 ≡ versionAt b (port - 1)
+  sent-frame-version = let w = wrote b port t out sent in wrote-version w (version-known b port t lawful (w .ready .0))
+
   -- byte 30 of a frame that was sent is the port's next frameCount
   pub sent-frame-count : numberAt (sendBytes b port t out) 30 1 ≡ portAt (b .ports) (port - 1) .count
   sent-frame-count = wrote-count (wrote b port t out sent) (lawful .ports-lawful (port - 1) .count)
@@ -112,16 +132,14 @@ module _ (b : Bridge) (port t : ℕ) (out : List ℕ) (lawful : Lawful b) (sent 
   unfolding sendingAt
   sent-frame-written f e =
       let r = wrote b port t out sent .ready in
-      sending-written (chosenOf b) (chosenSamples b) (b .setup .sender) (record { 0 = t }) (portAt (b .ports) (port - 1)) f e (length out) (r .0 .time) (lawful .ports-lawful (port - 1)) (r .1)
+      sending-written (chosenOf b) (chosenSamples b) (b .setup .sender) (versionAt b (port - 1)) (record { 0 = t }) (portAt (b .ports) (port - 1)) f e (version-known b port t lawful (r .0)) (length out) (r .0 .time) (lawful .ports-lawful (port - 1)) (r .1)
 
   -- each of its fields has its bits
   sent-typed : (f : Fields) → sendingAt (chosenOf b) b (port - 1) (record { 0 = t }) ≡ Frame f → Typed f
   unfolding sendingAt
   sent-typed f e =
-      sending-typed (chosenOf b) (chosenSamples b) (b .setup .sender) (record { 0 = t }) (portAt (b .ports) (port - 1)) f e
-      (lawful .setup-lawful .typed .address) (chosen-fits b lawful)
-      (chosen-lawful (chosenOf b) (b .clock) (b .ports) (lawful .clock-lawful) (lawful .ports-lawful))
-      (lawful .ports-lawful (port - 1))
+      sending-typed (chosenOf b) (chosenSamples b) (b .setup .sender) (versionAt b (port - 1)) (record { 0 = t }) (portAt (b .ports) (port - 1)) f e
+      (version-known b port t lawful (wrote b port t out sent .ready .0)) (lawful .setup-lawful .typed .address) (chosen-fits b lawful) (lawful .ports-lawful (port - 1))
 
   -- the first 64 bytes are read as the frame that was sent
   read-back : (f : Fields) → sendingAt (chosenOf b) b (port - 1) (record { 0 = t }) ≡ Frame f → readOf (take frameLength (sendBytes b port t out)) ≡ Readings.Frame f
@@ -151,12 +169,12 @@ module _ (b : Bridge) (port t : ℕ) (out : List ℕ) (lawful : Lawful b) (sent 
       }
 
   -- and those of a listener
-  pub listener-frame-read : Listens b → readOf (take frameLength (sendBytes b port t out)) ≡ Readings.Frame (listenerFrame (b .setup .sender) (record { 0 = t }) (portAt (b .ports) (port - 1)))
+  pub listener-frame-read : Listens b → readOf (take frameLength (sendBytes b port t out)) ≡ Readings.Frame (listenerFrame (b .setup .sender) (versionAt b (port - 1)) (record { 0 = t }) (portAt (b .ports) (port - 1)))
   unfolding sendingAt
   listener-frame-read l =
       let w = wrote b port t out sent in
       read-back (w .fields) (w .sending)
-      ∙ ap Readings.Frame (sending-listens (chosenOf b) (chosenSamples b) (b .setup .sender) (record { 0 = t }) (portAt (b .ports) (port - 1)) (w .fields) (w .sending) l)
+      ∙ ap Readings.Frame (sending-listens (chosenOf b) (chosenSamples b) (b .setup .sender) (versionAt b (port - 1)) (record { 0 = t }) (portAt (b .ports) (port - 1)) (w .fields) (w .sending) l)
 
   -- what a neighbour makes of them, at a port with a link and a local time in range, is what Receive makes of the fields that were sent
   pub sent-frame-received : (there : Bridge) (at arrival : ℕ) (f : Fields) → sendingAt (chosenOf b) b (port - 1) (record { 0 = t }) ≡ Frame f

@@ -36,7 +36,7 @@ use Rattle.bridge.specs.Table.{mostPorts, each, portAt, samplesAt, sampl
 use Rattle.bridge.specs.Arguments.{portRefusal, sendRefusal, ownClockRefusal, maskBeyond}
 use Rattle.bridge.specs.Fits.{rangesFit, profileFits, setupFits}
 use Rattle.bridge.specs.declared.Setup.{Setup}
-use Rattle.bridge.specs.State.{withPorts, answers, linked, storesPort, storesClock, refusedOr, Lawful}
+use Rattle.bridge.specs.State.{versionAt, withPorts, answers, linked, storesPort, storesClock, refusedOr, Lawful}
 use Rattle.bridge.specs.Setup.{freshOf, noBridge, setupOf}
 use Rattle.bridge.specs.Links.{linksOf}
 use Rattle.bridge.specs.Own.{ownClockOf}
@@ -219,15 +219,17 @@ module _ (b : Bridge) (port t : ℕ) (out : List ℕ) (k : ℕ) (e : k ≡ sendR
   send-fills z = goes-on _ k e _ _ z
 
 -- what a port sends by the chosen clock and the samples of its number: where no clock is chosen the samples do not matter
-pub sending-chosen : (b : Bridge) (i : ℕ) (t : LocalTime) (c : Candidate) (s : Samples) → c ≡ chosenOf b → s ≡ samplesAt (numberOf c) (b .clock) (b .ports)
-    → sendingOf c s (b .setup .sender) t (portAt (b .ports) i) ≡ sendingAt (chosenOf b) b i t
+pub sending-chosen : (b : Bridge) (i : ℕ) (t : LocalTime) (c : Candidate) (s : Samples) (version : ℕ) → c ≡ chosenOf b → s ≡ samplesAt (numberOf c) (b .clock) (b .ports)
+    → version ≡ versionAt b i → sendingOf c s (b .setup .sender) version t (portAt (b .ports) i) ≡ sendingAt (chosenOf b) b i t
 unfolding sendingAt samplesOfChoice
-sending-chosen b i t c s e q = go c s q ∙ ap (λ (x : Candidate). sendingOf x (samplesOfChoice x (b .clock) (b .ports)) (b .setup .sender) t (portAt (b .ports) i)) e
+sending-chosen b i t c s version e q v =
+    go c s q
+    ∙ (λ j. sendingOf (e j) (samplesOfChoice (e j) (b .clock) (b .ports)) (b .setup .sender) (v j) t (portAt (b .ports) i))
   where
     go : (c : Candidate) (s : Samples) → s ≡ samplesAt (numberOf c) (b .clock) (b .ports)
-        → sendingOf c s (b .setup .sender) t (portAt (b .ports) i) ≡ sendingOf c (samplesOfChoice c (b .clock) (b .ports)) (b .setup .sender) t (portAt (b .ports) i)
-    go Candidates.Nothing s q = send-unchosen Candidates.Nothing s (b .setup .sender) t (portAt (b .ports) i) _
-    go (Candidates.Clock p h n) s q = ap (λ (x : Samples). sendingOf (Candidates.Clock p h n) x (b .setup .sender) t (portAt (b .ports) i)) q
+        → sendingOf c s (b .setup .sender) version t (portAt (b .ports) i) ≡ sendingOf c (samplesOfChoice c (b .clock) (b .ports)) (b .setup .sender) version t (portAt (b .ports) i)
+    go Candidates.Nothing s q = send-unchosen Candidates.Nothing s (b .setup .sender) version t (portAt (b .ports) i) _
+    go (Candidates.Clock p h n) s q = ap (λ (x : Samples). sendingOf (Candidates.Clock p h n) x (b .setup .sender) version t (portAt (b .ports) i)) q
 
 -- ---- drift
 

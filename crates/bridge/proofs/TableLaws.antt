@@ -1,4 +1,4 @@
--- Laws of the table: the number of the choice, a port whose link changes, whose samples a number means, and the settings of the first ports.
+-- Laws of the table: the number of the choice, a port whose link changes, whose samples a number means, and a test of the first ports' settings or versions.
 use mathlib.Core.Path.{_≡_, refl, sym, ap, _∙_}
 use mathlib.Core.Bool.{Bool, true, false, _&&_}
 use mathlib.Core.List.{List, [], _∷_}
@@ -20,11 +20,11 @@ use Rattle.port.specs.Record.{emptyPort}
 use Rattle.port.specs.Lawful.{LawfulPort, LawfulClock}
 use Rattle.port.specs.declared.Port.{Port}
 use Rattle.port.specs.declared.OwnClock.{OwnClock}
-use Rattle.port.specs.declared.Setting.{Setting}
 use Rattle.bridge.specs.Arguments.{bit}
 use Rattle.bridge.specs.Table.{portAt, losesLink, relinkedPort, samplesAt, samplesOfChoice, candidatesFrom}
-use Rattle.bridge.specs.Fits.{delayFits, delaysFit}
+use Rattle.bridge.specs.Fits.{all}
 use Rattle.numbers.proofs.Branches.{if-true, if-false, if-when}
+use Rattle.times.proofs.TestLaws.{both-hold}
 
 -- ---- the choice
 
@@ -90,29 +90,48 @@ unfolding samplesOfChoice
 chosen-lawful Nothing clock ports c p = tt
 chosen-lawful (Clock q h n) clock ports c p = samples-lawful n clock ports c p
 
--- ---- the settings of the first n ports
+-- ---- a test of the first n elements
 
-module _ (settings : List Setting) (n : ℕ) (room : n ≤ length settings) where
-  abbrev first : List Setting
-  first = take n settings
+module _ {A : Type 0} (test : A → Bool) (l : List A) (n : ℕ) (room : n ≤ length l) where
+  abbrev first : List A
+  first = take n l
 
-  next-setting : (i : ℕ) (d : Setting) → i < n → drop i first ≡ getD settings i d ∷ drop (i + 1) first
-  next-setting i d h =
-      let l : i < length first = rw (length-take-le n settings room) h in
+  next-element : (i : ℕ) (d : A) → i < n → drop i first ≡ getD l i d ∷ drop (i + 1) first
+  next-element i d h =
+      let k : i < length first = rw (length-take-le n l room) h in
       rw (add-one, drop-cons first i d, getD-take) refl
 
-  pub delays-turn : (i : ℕ) (d : Setting) → i < n → delayFits (getD settings i d .delay) ≡ true → delaysFit (drop (i + 1) first) ≡ delaysFit (drop i first)
-  unfolding delaysFit
-  delays-turn i d h e =
-      ap (λ (b : Bool). b && delaysFit (drop (i + 1) first)) (sym e) ∙ ap delaysFit (sym (next-setting i d h))
+  pub all-turn : (i : ℕ) (d : A) → i < n → test (getD l i d) ≡ true → all test (drop (i + 1) first) ≡ all test (drop i first)
+  unfolding all
+  all-turn i d h e = ap (λ (b : Bool). b && all test (drop (i + 1) first)) (sym e) ∙ ap (all test) (sym (next-element i d h))
 
-  pub delays-stop : (i : ℕ) (d : Setting) → i < n → delayFits (getD settings i d .delay) ≡ false → false ≡ delaysFit (drop i first)
-  unfolding delaysFit
-  delays-stop i d h e =
-      ap (λ (b : Bool). b && delaysFit (drop (i + 1) first)) (sym e) ∙ ap delaysFit (sym (next-setting i d h))
+  pub all-stop : (i : ℕ) (d : A) → i < n → test (getD l i d) ≡ false → false ≡ all test (drop i first)
+  unfolding all
+  all-stop i d h e = ap (λ (b : Bool). b && all test (drop (i + 1) first)) (sym e) ∙ ap (all test) (sym (next-element i d h))
 
-  pub delays-end : (i : ℕ) → i ≡ n → true ≡ delaysFit (drop i first)
-  unfolding delaysFit
-  delays-end i e =
-      let l : length first ≡ i = length-take-le n settings room ∙ sym e in
-      rw (← l, drop-length)
+  pub all-end : (i : ℕ) → i ≡ n → true ≡ all test (drop i first)
+  unfolding all
+  all-end i e =
+      let k : length first ≡ i = length-take-le n l room ∙ sym e in
+      rw (← k, drop-length)
+
+-- where one of two tests fails of the elements at an index, they do not both hold of all
+pub both-stop : {A B : Type 0} (f : A → Bool) (g : B → Bool) (l : List A) (m : List B) (n : ℕ) → n ≤ length l → n ≤ length m
+    → (i : ℕ) (d : A) (e : B) → i < n → f (getD l i d) && g (getD m i e) ≡ false → false ≡ all f (drop i (take n l)) && all g (drop i (take n m))
+both-stop f g l m n room more i d e h fails = by (f (getD l i d)) refl fails
+  where
+    right-fails : (x : Bool) {y : Bool} → false ≡ y → false ≡ x && y
+    right-fails true q = q
+    right-fails false q = refl
+
+    by : (x : Bool) → f (getD l i d) ≡ x → x && g (getD m i e) ≡ false → false ≡ all f (drop i (take n l)) && all g (drop i (take n m))
+    by true p q = right-fails (all f (drop i (take n l))) (all-stop g m n more i e h q)
+    by false p q = ap (λ (x : Bool). x && all g (drop i (take n m))) (all-stop f l n room i d h p)
+
+-- where it holds of all of them, it holds of each
+pub all-each : {A : Type 0} (test : A → Bool) (l : List A) (n i : ℕ) (d : A) → n ≤ length l → all test (take n l) ≡ true → i < n → test (getD l i d) ≡ true
+unfolding all
+all-each test l zero i d room fit h = absurd (omega arith)
+all-each test [] (suc n) i d room fit h = absurd (omega arith)
+all-each test (a ∷ l) (suc n) zero d room fit h = both-hold (test a) _ fit .0
+all-each test (a ∷ l) (suc n) (suc i) d room fit h = all-each test l n i d (omega arith) (both-hold (test a) _ fit .1) (omega arith)

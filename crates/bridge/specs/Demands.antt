@@ -1,4 +1,4 @@
--- What the theorems on the calls say: which answers there are and what each leaves, the line of demand 3, the drift, the candidates, calls in a row, listeners, and hops.
+-- What the theorems on the calls say: which answers there are and what each leaves, the line of demand 3, errorTime and the line at the departure, the drift, the candidates, calls in a row, listeners, and hops.
 use mathlib.Core.Path.{_≡_}
 use mathlib.Core.Bool.{cond, not}
 use mathlib.Core.List.{List, [], _∷_, List·Memᴰ}
@@ -6,22 +6,22 @@ use mathlib.Core.Logic.{_⊎_}
 use Prim.Native.Nat.{ℕ, _+_, _-_, _*_, _<_, _≤_}
 use lib.Dec.{eqb}
 use lib.ListN.{getD}
-use lib.IntN.{pos, natAbs}
+use lib.IntN.{ℤ, pos, natAbs, _+ℤ_, _-ℤ_}
 use lib.Signed.{nonNeg}
 use lib.Ieee.{Float}
 use lib.Ieee.Exact.{HasValue}
 use Rattle.numbers.specs.Bytes.{numberAt, Bytes}
 use Rattle.refusals.specs.Refusals.{lastHopHeard}
-use Rattle.times.specs.Times.{counts, sinceOf}
+use Rattle.times.specs.Times.{counts, sinceOf, errorOf}
 use Rattle.times.specs.declared.LocalTime.{LocalTime}
 use Rattle.times.specs.declared.GrandTime.{GrandTime}
 use Rattle.times.specs.declared.ErrorTime.{ErrorTime}
-use Rattle.samples.specs.Rate.{parts}
+use Rattle.samples.specs.Rate.{parts, scaledOf}
 use Rattle.samples.specs.Keep.{endsOf, rateBetween}
 use Rattle.samples.specs.declared.Sample.{Sample}
 use Rattle.samples.specs.declared.Ends.the-variants.{Both}
 use Rattle.timeline.specs.Sent.{reachOf, sentOf}
-use Rattle.timeline.specs.Line.{bound, NearLine}
+use Rattle.timeline.specs.Line.{bound, departureBound, NearLine}
 use Rattle.timeline.specs.Drift.{million, driftNo}
 use Rattle.timeline.specs.declared.Drift.{Drift}
 use Rattle.timeline.specs.declared.Sent.the-variants.{At}
@@ -40,11 +40,11 @@ use Rattle.frame.specs.declared.Reading.{Reading}
 use Rattle.frame.specs.declared.Reading.the-variants.{Frame}
 use Rattle.port.specs.Record.{usedPort}
 use Rattle.port.specs.Receive.{notedPort}
-use Rattle.port.specs.Send.{frameOf, listenerHop, noGrandTime, noErrorTime}
+use Rattle.port.specs.Send.{frameOf, restOf, listenerHop, noGrandTime, noErrorTime}
 use Rattle.port.specs.declared.Preceding.the-variants.{Was}
 use Rattle.bridge.specs.Table.{portAt, losesLink, samplesAt, candidatesOf}
 use Rattle.bridge.specs.Arguments.{sendRefusal, maskBeyond}
-use Rattle.bridge.specs.State.{withPort, withClock, answers}
+use Rattle.bridge.specs.State.{versionAt, withPort, withClock, answers}
 use Rattle.bridge.specs.Setup.{noBridge}
 use Rattle.bridge.specs.Links.{linksOf, linkNo}
 use Rattle.bridge.specs.Own.{ownClockOf}
@@ -68,7 +68,7 @@ ReadAnswers r = (readNo r ≡ 0) ⊎ From 4 6 (readNo r)
 
 -- write: no refusal touches the output
 abbrev pub WriteAnswers : List ℕ → ℕ → List ℕ → Type 0
-WriteAnswers out k left = (k ≡ 0) ⊎ (((k ≡ 2) ⊎ (k ≡ 4)) × (left ≡ out))
+WriteAnswers out k left = (k ≡ 0) ⊎ (((k ≡ 2) ⊎ ((k ≡ 4) ⊎ (k ≡ 6))) × (left ≡ out))
 
 -- setup, 1: what stands for no state
 abbrev pub SetupAnswers : Done → Type 0
@@ -126,6 +126,40 @@ pub record OnLine (b : Bridge) (t : ℕ) (bytes : List ℕ) : Type 0 where
   pub kept : endsOf (chosenSamples b) ≡ Both older newer
   pub near : NearLine bound older newer (pos (numberAt bytes grandStart grandBytes)) (reachOf (sinceOf (record { 0 = t }) (newer .local)) (b .setup .sender .back)) (b .setup .sender .back)
 
+-- ---- errorTime, and the line at the departure itself
+
+-- the version is this byte of a frame
+abbrev pub versionStart : ℕ
+versionStart = 15
+
+abbrev pub versionIn : List ℕ → ℕ
+versionIn bytes = numberAt bytes versionStart 1
+
+-- errorTime stands in these bytes, as a signed number
+abbrev pub errorStart : ℕ
+errorStart = 60
+
+abbrev pub errorBytes : ℕ
+errorBytes = 4
+
+abbrev pub errorIn : List ℕ → ℤ
+errorIn bytes = errorOf (record { 0 = numberAt bytes errorStart errorBytes })
+
+-- the errorTime in these bytes is the newest kept sample's, and, in version 2, floor(rate × backTime / 2^35) besides
+pub record ErrorSent (b : Bridge) (bytes : List ℕ) : Type 0 where
+  pub older : Sample
+  pub newer : Sample
+  pub kept : endsOf (chosenSamples b) ≡ Both older newer
+  pub first : versionIn bytes ≡ 1 → numberAt bytes errorStart errorBytes ≡ newer .error .0
+  pub second : versionIn bytes ≡ 2 → errorIn bytes ≡ errorOf (newer .error) +ℤ scaledOf (rateBetween older newer) (pos (b .setup .sender .back))
+
+-- grandTime and errorTime in these bytes, less the newest kept sample's errorTime, lie near the line read at the departure itself: there is no backTime in it
+pub record AtDeparture (b : Bridge) (t : ℕ) (bytes : List ℕ) : Type 0 where
+  pub older : Sample
+  pub newer : Sample
+  pub kept : endsOf (chosenSamples b) ≡ Both older newer
+  pub near : NearLine departureBound older newer (pos (numberAt bytes grandStart grandBytes) +ℤ errorIn bytes -ℤ errorOf (newer .error)) (pos (sinceOf (record { 0 = t }) (newer .local))) 0
+
 -- ---- what Send writes
 
 -- what Read gives of a sent frame is exactly the fields of the rules: for the chosen clock, with the grand time and errorTime read off its samples
@@ -136,8 +170,8 @@ pub record SentFields (b : Bridge) (port t : ℕ) (sent : List ℕ) : Type 0 whe
   pub grand : GrandTime
   pub error : ErrorTime
   pub chosen : chosenOf b ≡ Clock precedence hop number
-  pub time : sentOf (chosenSamples b) (record { 0 = t }) (b .setup .sender .back) ≡ At grand error
-  pub read : readOf sent ≡ Frame (frameOf (b .setup .sender) precedence hop (record { 0 = t }) grand error (portAt (b .ports) (port - 1)))
+  pub time : sentOf (chosenSamples b) (record { 0 = t }) (b .setup .sender .back) (restOf (versionAt b (port - 1)) (b .setup .sender .back)) ≡ At grand error
+  pub read : readOf sent ≡ Frame (frameOf (b .setup .sender) (versionAt b (port - 1)) precedence hop (record { 0 = t }) grand error (portAt (b .ports) (port - 1)))
 
 -- ---- drift
 

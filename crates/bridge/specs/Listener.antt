@@ -7,7 +7,7 @@ use Rattle.refusals.specs.Literals.{Literal, literal}
 use Rattle.choice.specs.Choose.{shownPort, shownHop}
 use Rattle.port.specs.declared.Profile.the-variants.{Listener}
 use Rattle.bridge.specs.Table.{mostPorts}
-use Rattle.bridge.specs.Fits.{measuredSetting, noPrecedence, plainSetup}
+use Rattle.bridge.specs.Fits.{measuredSetting, firstVersions, noPrecedence, plainSetup}
 use Rattle.bridge.specs.Setup.{defaultTimeout, defaultBack, setupOf}
 use Rattle.bridge.specs.Links.{linksOf}
 use Rattle.bridge.specs.Receive.{receiveOf}
@@ -28,6 +28,7 @@ listening n capable back = record {
   capable = capable;
   timeout = defaultTimeout;
   settings = replicate mostPorts measuredSetting;
+  versions = firstVersions;
 }
 
 abbrev setUp : ℕ → Bool → ℕ → ℕ

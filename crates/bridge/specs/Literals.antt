@@ -2,15 +2,17 @@
 use mathlib.Core.Bool.{true, false}
 use mathlib.Core.List.{List, [], _∷_, _++_}
 use Prim.Native.Nat.{ℕ, _+_, _-_, _^_}
+use lib.ListN.{getD, replicate}
 use Rattle.refusals.specs.Literals.{Literal, literal, tested, numbers}
 use Rattle.delay.specs.declared.DelaySetting.the-variants.{Fixed}
 use Rattle.port.specs.declared.Profile.the-variants.{Full}
+use Rattle.port.specs.declared.Setting.{Setting}
 use Rattle.timeline.specs.Drift.{driftNo}
 use Rattle.frame.specs.Literals.{frameLiterals}
 use Rattle.port.specs.Literals.{recordLiterals}
 use Rattle.bridge.specs.Table.{portAt}
 use Rattle.bridge.specs.Arguments.{portRefusal, sendRefusal, ownClockRefusal, maskBeyond}
-use Rattle.bridge.specs.Fits.{noMac, noPrecedence, plainSetup}
+use Rattle.bridge.specs.Fits.{measuredSetting, firstVersions, noMac, noPrecedence, plainSetup}
 use Rattle.bridge.specs.Setup.{defaultTimeout, defaultBack, noBridge, setupOf}
 use Rattle.bridge.specs.Links.{linksOf, linkNo}
 use Rattle.bridge.specs.Age.{ageOf}
@@ -22,16 +24,25 @@ use Rattle.bridge.specs.Drift.{driftAt}
 abbrev plain : ℕ → ℕ → ℕ → ℕ
 plain n timeout back = setupOf (plainSetup n timeout back) .answer
 
--- and to one port with this fixed delay, beside an entry that is none of its
-abbrev fixed : ℕ → ℕ
-fixed delay = setupOf (record {
-  n = 1;
+-- and to so many ports with these settings and versions
+abbrev with : ℕ → List Setting → List ℕ → ℕ
+with n settings versions = setupOf (record {
+  n = n;
   sender = record { profile = Full; mac = noMac; back = 0 };
   own = noPrecedence;
   capable = false;
   timeout = 2 ^ 39;
-  settings = record { delay = Fixed delay } ∷ record { delay = Fixed (2 ^ 48) } ∷ [];
+  settings = settings;
+  versions = versions;
 }) .answer
+
+-- one port with this fixed delay, beside an entry that is none of its
+abbrev fixed : ℕ → ℕ
+fixed delay = with 1 (record { delay = Fixed delay } ∷ record { delay = Fixed (2 ^ 48) } ∷ []) firstVersions
+
+-- so many ports with the first of these versions, beside entries that are none of theirs
+abbrev versioned : ℕ → List ℕ → ℕ
+versioned n versions = with n (replicate 8 measuredSetting) (versions ++ (3 ∷ 0 ∷ []))
 
 abbrev setups : List Literal
 setups =
@@ -53,6 +64,17 @@ setups =
     -- a fixed delay up to 2^30; entries beyond the ports are not looked at
     ∷ literal (fixed (2 ^ 30)) 0
     ∷ literal (fixed (2 ^ 30 + 1)) 1
+    -- version 1 or 2 at each port, by default 1; entries beyond the ports are not looked at
+    ∷ literal (versioned 1 (0 ∷ [])) 1
+    ∷ literal (versioned 1 (1 ∷ [])) 0
+    ∷ literal (versioned 1 (2 ∷ [])) 0
+    ∷ literal (versioned 1 (3 ∷ [])) 1
+    ∷ literal (versioned 1 (255 ∷ [])) 1
+    ∷ literal (versioned 2 (1 ∷ 2 ∷ [])) 0
+    ∷ literal (versioned 2 (2 ∷ 3 ∷ [])) 1
+    ∷ literal (versioned 2 (3 ∷ 2 ∷ [])) 1
+    ∷ literal (getD firstVersions 0 0) 1
+    ∷ literal (getD firstVersions 7 0) 1
     -- all links are down, and each port's first frameCount is 0
     ∷ literal (setupOf (plainSetup 8 (2 ^ 39) 0) .next .links) 0
     ∷ literal (portAt (setupOf (plainSetup 8 (2 ^ 39) 0) .next .ports) 7 .count) 0

@@ -10,7 +10,7 @@ use Rattle.numbers.specs.Bytes.{numberAt}
 use Rattle.times.specs.declared.LocalTime.{LocalTime}
 use Rattle.delay.specs.declared.DelaySetting.{DelaySetting}
 use Rattle.delay.specs.declared.DelaySetting.the-variants.{Measured, Fixed}
-use Rattle.frame.specs.Order.{readConditions}
+use Rattle.frame.specs.Order.{NoVersion, readConditions}
 use Rattle.port.specs.Order.{frameConditions, readingConditions, departureConditions}
 use Rattle.port.specs.declared.Profile.{Profile}
 use Rattle.port.specs.declared.Profile.the-variants.{Full, Listener}
@@ -18,6 +18,7 @@ use Rattle.port.specs.declared.Setting.{Setting}
 use Rattle.bridge.specs.Arguments.{bit}
 use Rattle.bridge.specs.Table.{portAt}
 use Rattle.bridge.specs.Fits.{measuredSetting}
+use Rattle.bridge.specs.State.{versionAt}
 use Rattle.bridge.specs.Receive.{settingAt}
 use Rattle.bridge.specs.Chosen.{chosenOf}
 use Rattle.bridge.specs.Send.{chosenSamples}
@@ -38,12 +39,17 @@ Above (Fixed delay) = 2 ^ 30 < delay
 abbrev pub FixedAbove : ℕ → List Setting → Type 0
 FixedAbove n settings = (i : ℕ) × (i < n) × Above (getD settings i measuredSetting .delay)
 
+-- a version other than 1 and 2, at one of them
+abbrev pub OtherVersion : ℕ → List ℕ → Type 0
+OtherVersion n versions = (i : ℕ) × (i < n) × NoVersion (getD versions i 1)
+
 -- a listener with other than one port, capable, or with a backTime other than 0
 abbrev pub ListenerOtherwise : Profile → ℕ → Bool → ℕ → Type 0
 ListenerOtherwise Full n capable back = ⊥
 ListenerOtherwise Listener n capable back = (n ≢ 1) ⊎ ((capable ≡ true) ⊎ (back ≢ 0))
 
--- a listener set up otherwise; ports not 1..8, timeout not 2^36..2^46, backTime above 2^39 - 1, a fixed delay above 2^30
+-- a listener set up otherwise; ports not 1..8, timeout not 2^36..2^46, backTime above 2^39 - 1, a fixed delay above 2^30,
+-- a version other than 1 and 2
 abbrev pub setupConditions : Setup → List Condition
 setupConditions s =
     given 1 (ListenerOtherwise (s .sender .profile) (s .n) (s .capable) (s .sender .back))
@@ -53,6 +59,7 @@ setupConditions s =
     ∷ given 1 (2 ^ 46 < s .timeout)
     ∷ given 1 (2 ^ 39 - 1 < s .sender .back)
     ∷ given 1 (FixedAbove (s .n) (s .settings))
+    ∷ given 1 (OtherVersion (s .n) (s .versions))
     ∷ []
 
 -- ---- Links, Age and Drift
@@ -103,8 +110,8 @@ heardConditions b i frame =
 abbrev pub receiveConditions : Bridge → ℕ → List ℕ → ℕ → List Condition
 receiveConditions b port frame arrival = portConditions (b .setup .n) (b .links) port arrival ++ (readConditions frame ++ heardConditions b (port - 1) frame)
 
--- the port, an output shorter than 64, and then, of a full bridge, the chosen clock, its samples and the sent grand time
+-- the port, an output shorter than 64, and then, of a full bridge, the chosen clock, its samples, the sent grand time and errorTime
 abbrev pub sendConditions : Bridge → ℕ → ℕ → ℕ → List Condition
 sendConditions b port t room =
     portConditions (b .setup .n) (b .links) port t
-    ++ (given 4 (room < 64) ∷ departureConditions (b .setup .sender .profile) (chosenOf b) (chosenSamples b) (record { 0 = t }) (b .setup .sender .back))
+    ++ (given 4 (room < 64) ∷ departureConditions (b .setup .sender .profile) (chosenOf b) (chosenSamples b) (versionAt b (port - 1)) (record { 0 = t }) (b .setup .sender .back))

@@ -12,14 +12,14 @@ use Rattle.port.specs.Send.{sendingOf, sendingDone, sendingBytes}
 use Rattle.port.specs.declared.Sending.{Sending}
 use Rattle.bridge.specs.Table.{portAt, samplesOfChoice}
 use Rattle.bridge.specs.Arguments.{sendRefusal}
-use Rattle.bridge.specs.State.{storesPort, refusedOr}
+use Rattle.bridge.specs.State.{versionAt, storesPort, refusedOr}
 use Rattle.bridge.specs.Chosen.{chosenOf}
 use Rattle.bridge.specs.declared.Bridge.{Bridge}
 use Rattle.bridge.specs.declared.Done.{Done}
 
--- the frame that the port at index i sends at t for a choice, or 10 to 13
+-- the frame that the port at index i sends at t for a choice, in its version, or 10 to 13
 unfoldable pub sendingAt : Candidate → Bridge → ℕ → LocalTime → Sending
-sendingAt choice b i t = sendingOf choice (samplesOfChoice choice (b .clock) (b .ports)) (b .setup .sender) t (portAt (b .ports) i)
+sendingAt choice b i t = sendingOf choice (samplesOfChoice choice (b .clock) (b .ports)) (b .setup .sender) (versionAt b i) t (portAt (b .ports) i)
 
 -- 2, 3 and 4 first; else the port's next frameCount is used up, also by a refusal with 10 to 13
 abbrev pub sendBy : Candidate → Bridge → ℕ → ℕ → ℕ → Done

@@ -4,7 +4,7 @@ use mathlib.Core.Bool.{true, false, cond}
 use mathlib.Core.List.{List}
 use Prim.Native.Nat.{ℕ, _^_, _<_, _≤_}
 use lib.Dec.{eqb}
-use lib.ListN.{length, take, set}
+use lib.ListN.{length, getD, take, set}
 use Rattle.refusals.specs.Refusals.{done}
 use Rattle.timeline.specs.Sent.{longestElapsed}
 use Rattle.choice.specs.Rank.{PrecedenceFits}
@@ -15,7 +15,7 @@ use Rattle.port.specs.declared.OwnClock.{OwnClock}
 use Rattle.port.specs.declared.PortDone.{PortDone}
 use Rattle.port.specs.declared.ClockDone.{ClockDone}
 use Rattle.bridge.specs.Table.{portAt, mostPorts}
-use Rattle.bridge.specs.Fits.{greatestTimeout, delaysFit, listenerPorts, listenerBack}
+use Rattle.bridge.specs.Fits.{greatestTimeout, delaysFit, versionsFit, listenerPorts, listenerBack}
 use Rattle.bridge.specs.Ranking.{keptRanking}
 use Rattle.bridge.specs.declared.Setup.{Setup}
 use Rattle.bridge.specs.declared.Bridge.{Bridge}
@@ -23,9 +23,10 @@ use Rattle.bridge.specs.declared.Done.{Done}
 use Rattle.bridge.specs.declared.Linked.{Linked}
 use Rattle.bridge.specs.declared.LinkCount.{LinkCount}
 
--- what the types of a setup say, whatever Setup makes of it: eight settings, an address of six bytes, and an own precedence whose parts have their bits
+-- what the types of a setup say, whatever Setup makes of it: eight settings and eight versions, an address of six bytes, and an own precedence whose parts have their bits
 pub record TypedSetup (s : Setup) : Type 0 where
   pub settings-all : length (s .settings) ≡ mostPorts
+  pub versions-all : length (s .versions) ≡ mostPorts
   pub address : LawfulMac (s .sender .mac)
   pub own-fits : PrecedenceFits (s .own)
 
@@ -43,6 +44,7 @@ pub record LawfulSetup (s : Setup) : Type 0 where
   pub back-small : s .sender .back < longestElapsed
   pub listener-fits : s .sender .profile ≡ Listener → ListenerSetup s
   pub delays-fit : delaysFit (take (s .n) (s .settings)) ≡ true
+  pub versions-fit : versionsFit (take (s .n) (s .versions)) ≡ true
 
 -- what holds of every number in a state that Setup or a call hands back; and the ranking that it keeps is the one made afresh from its table
 pub record Lawful (b : Bridge) : Type 0 where
@@ -59,6 +61,10 @@ FullBridge b = b .setup .sender .profile ≡ Full
 
 abbrev pub Listens : Bridge → Type 0
 Listens b = b .setup .sender .profile ≡ Listener
+
+-- the version of the frames that the port at index i sends
+abbrev pub versionAt : Bridge → ℕ → ℕ
+versionAt b i = getD (b .setup .versions) i 0
 
 -- a state by its parts, its ranking made afresh: every state that is made, or whose records change, is made here
 abbrev pub stateOf : Setup → ℕ → OwnClock → List Port → Bridge

@@ -15,12 +15,14 @@ const HALF_A_SECOND: u64 = 0x80_0000_0000;
 
 const FIFTEEN_MILLISECONDS: u64 = 16_492_674_417;
 
-// What Setup is given: what the station puts into its frames, its own precedence and whether it is capable, how many ports it has, a timeout, and each port's part.
+// What Setup is given: what the station puts into its frames, its own precedence and whether it is capable, how many ports it has, the version of the
+// frames that each of them sends, a timeout, and each port's part.
 pub struct Setup {
     pub sender: Sender,
     pub own: Precedence,
     pub capable: bool,
     pub n: u8,
+    pub versions: [u8; 8],
     pub timeout: u64,
     pub settings: [Setting; 8],
 }

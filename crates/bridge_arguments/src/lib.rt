@@ -1,14 +1,17 @@
 // The refusals that are found before any record is looked at.
 ghost use mathlib.Core.Path.{_≡_};
+ghost use mathlib.Core.Bool.{_&&_};
 ghost use Prim.Native.Nat.{_≤_};
 ghost use lib.Dec.{leb};
 ghost use lib.ListN.{take};
 ghost use Rattle.times.specs.Times.{circle};
+ghost use Rattle.frame.specs.Frame.{isVersion};
 ghost use Rattle.bridge.specs.Arguments.{hasLink, portRefusal, sendRefusal, ownClockRefusal, maskBeyond};
-ghost use Rattle.bridge.specs.Fits.{delayFits, delaysFit, rangesFit, profileFits};
+ghost use Rattle.bridge.specs.Fits.{delayFits, settingFits, delaysFit, versionsFit, rangesFit, profileFits};
 use bridge::Setup;
 use delay::DelaySetting;
 use frame::layout;
+use frame::version;
 use port::Profile;
 use port::Setting;
 use times::grand;
@@ -117,17 +120,27 @@ fn delay_fits(setting: DelaySetting) -> bool
     }
 }
 
-// Whether the settings of the first n ports are such.
-fn delays_fit(n: u8, settings: [Setting; 8]) -> bool
+// Whether a port's setting and the version of its frames are such as Setup takes.
+fn port_fits(setting: Setting, version: u8) -> bool
+    ensures { λ r. ⌜ r ≡ settingFits setting && isVersion version ⌝ }
+{
+    let delay = setting.delay;
+    if delay_fits(delay) {
+        return version::is_version(version as u64);
+    }
+    false
+}
+
+// Whether those of the first n ports are.
+fn ports_fit(n: u8, settings: [Setting; 8], versions: [u8; 8]) -> bool
     requires { ⌜ n ≤ 8 ⌝ }
-    ensures { λ r. ⌜ r ≡ delaysFit (take n settings) ⌝ }
+    ensures { λ r. ⌜ r ≡ delaysFit (take n settings) && versionsFit (take n versions) ⌝ }
 {
     let end = n as usize;
     let mut i: usize = 0;
     while i < end {
         let setting = settings[i];
-        let delay = setting.delay;
-        if delay_fits(delay) {
+        if port_fits(setting, versions[i]) {
             i += 1;
         } else {
             return false;
@@ -136,7 +149,7 @@ fn delays_fit(n: u8, settings: [Setting; 8]) -> bool
     true
 }
 
-// Whether ports, timeout, backTime and fixed delays are in their ranges.
+// Whether ports, timeout, backTime and fixed delays are in their ranges, and there are such versions.
 pub fn ranges_fit(s: Setup) -> bool
     ensures { λ r. ⌜ r ≡ rangesFit s ⌝ }
 {
@@ -156,7 +169,8 @@ pub fn ranges_fit(s: Setup) -> bool
         return false;
     }
     let settings = s.settings;
-    delays_fit(s.n, settings)
+    let versions = s.versions;
+    ports_fit(s.n, settings, versions)
 }
 
 // Whether a station of this profile may have so many ports, a clock of its own, and this backTime.

@@ -25,7 +25,16 @@ pub fn send(b: Bridge, port: u8, t: u64, out: &mut [u8]) -> Done
         let i = (port - 1) as usize;
         let held = next.ports[i];
         let sender = next.setup.sender;
-        let sent = port_send::send(held, choice, samples, sender, LocalTime(t), out);
+        let versions = next.setup.versions;
+        let sent = port_send::send(
+            held,
+            choice,
+            samples,
+            sender,
+            versions[i],
+            LocalTime(t),
+            out,
+        );
         let after = sent.port;
         next.ports[i] = after;
         answer = sent.answer;

@@ -9,12 +9,13 @@ use bridge::Setup;
 use choice::Precedence;
 use delay::DelaySetting;
 use frame::Mac;
+use frame::version;
 use port::Profile;
 use port::Sender;
 use port::Setting;
 use port::record;
 
-// The setup of a full bridge that is not capable and whose n ports all measure their delay, with zeros for address and precedence.
+// The setup of a full bridge that is not capable and whose n ports all measure their delay and send version 1, with zeros for address and precedence.
 pub fn plain_setup(n: u8, timeout: u64, back: u64) -> Setup
     ensures { λ r. ⌜ r ≡ plainSetup n timeout back ⌝ }
 {
@@ -38,6 +39,7 @@ pub fn plain_setup(n: u8, timeout: u64, back: u64) -> Setup
         capable: false,
         timeout: timeout,
         settings: [setting; 8],
+        versions: [version::FIRST_VERSION; 8],
     }
 }
 

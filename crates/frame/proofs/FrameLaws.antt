@@ -1,6 +1,6 @@
 -- Refusals: how a chain of tests answers, what holds where it answers 0, and what the answers of calls say of the definitions.
 use mathlib.Core.Path.{_≡_, refl, sym, ap, _∙_}
-use mathlib.Core.Bool.{Bool, true, false, cond, true≢false, false≢true}
+use mathlib.Core.Bool.{Bool, true, false, cond, _||_, true≢false, false≢true}
 use mathlib.Core.List.{List}
 use mathlib.Core.Logic.{_⊎_, inl, inr, ⊎-elim}
 use Prim.Native.Nat.{ℕ, zero, suc, _<_, _≤_}
@@ -14,7 +14,7 @@ use Rattle.choice.specs.Hop.{lastHop}
 use Rattle.times.specs.Times.{second, circle}
 use Rattle.choice.specs.Precedence.{keyOf}
 use Rattle.choice.specs.declared.Precedence.{Precedence}
-use Rattle.frame.specs.Frame.{frameLength, stationAddress, localExperimental, timeSync, firstVersion, fieldsOf}
+use Rattle.frame.specs.Frame.{frameLength, stationAddress, localExperimental, timeSync, isVersion, fieldsOf}
 use Rattle.frame.specs.Read.{rowsOf, constantsRefusal, readRefusal, readAs, readOf, readNo, readFields}
 use Rattle.frame.specs.Values.{bytesRefusal, fieldsAt}
 use Rattle.frame.specs.Write.{writeRefusal, bytesOf, writtenAs, writtenOf}
@@ -49,6 +49,17 @@ pub unless-is : (P : ℕ → Type 0) (t : Bool) {k n : ℕ} → P k → P n → 
 unless-is P true p q = q
 unless-is P false p q = p
 
+-- ---- the version
+
+-- there is none beyond a byte
+pub version-small : (version : ℕ) → isVersion version ≡ true → version < 256
+version-small version e = by (eqb version 1) refl (eqb version 2) refl e
+  where
+    by : (x : Bool) → eqb version 1 ≡ x → (y : Bool) → eqb version 2 ≡ y → (x || y) ≡ true → version < 256
+    by true p y q e = omega (arith, eqb-true version 1 p)
+    by false p true q e = omega (arith, eqb-true version 2 q)
+    by false p false q e = absurd (false≢true e)
+
 -- ---- read
 
 -- what an accepted frame meets
@@ -58,7 +69,7 @@ pub record Accepted (s : List ℕ) : Type 0 where
   pub protocolType : getD (rowsOf s) 7 0 ≡ localExperimental
   pub function : getD (rowsOf s) 8 0 ≡ timeSync
   pub byte31 : getD (rowsOf s) 17 0 ≡ 0
-  pub version : getD (rowsOf s) 9 0 ≡ firstVersion
+  pub version : isVersion (getD (rowsOf s) 9 0) ≡ true
 
 pub accepted : (s : List ℕ) → readRefusal s ≡ 0 → Accepted s
 unfolding readRefusal
@@ -69,14 +80,14 @@ accepted s e =
     let c = none (eqb (getD vs 7 0) localExperimental) 4 _ (b .1) in
     let d = none (eqb (getD vs 8 0) timeSync) 4 _ (c .1) in
     let f = none (eqb (getD vs 17 0) 0) 4 _ (d .1) in
-    let g = none (eqb (getD vs 9 0) firstVersion) 5 _ (f .1) in
+    let g = none (isVersion (getD vs 9 0)) 5 _ (f .1) in
     record {
       sized = eqb-true _ _ (a .0);
       da = eqb-true _ _ (b .0);
       protocolType = eqb-true _ _ (c .0);
       function = eqb-true _ _ (d .0);
       byte31 = eqb-true _ _ (f .0);
-      version = eqb-true _ _ (g .0);
+      version = g .0;
     }
 
 -- the refusals of a wrong length, and of the rows of a right one
@@ -149,7 +160,7 @@ read-is P s p q r z =
     unless-is P (eqb (length s) frameLength) p
     (unless-is P (eqb (getD vs 0 0) stationAddress) q
     (unless-is P (eqb (getD vs 7 0) localExperimental) q
-    (unless-is P (eqb (getD vs 8 0) timeSync) q (unless-is P (eqb (getD vs 17 0) 0) q (unless-is P (eqb (getD vs 9 0) firstVersion) r z)))))
+    (unless-is P (eqb (getD vs 8 0) timeSync) q (unless-is P (eqb (getD vs 17 0) 0) q (unless-is P (isVersion (getD vs 9 0)) r z)))))
 
 -- ---- write
 
@@ -161,6 +172,7 @@ pub record Written (f : Fields) (n : ℕ) : Type 0 where
   pub tx : f .tx .0 < circle
   pub rx : f .rx .0 < circle
   pub room : frameLength ≤ n
+  pub version : isVersion (f .version) ≡ true
 
 pub in-range : (f : Fields) (n : ℕ) → writeRefusal f n ≡ 0 → Written f n
 unfolding writeRefusal
@@ -171,6 +183,7 @@ in-range f n e =
     let d = none (ltb (f .tx .0) circle) 1 _ (c .1) in
     let g = none (ltb (f .rx .0) circle) 1 _ (d .1) in
     let h = none (leb frameLength n) 3 _ (g .1) in
+    let v = none (isVersion (f .version)) 5 _ (h .1) in
     record {
       seconds = ltb-true _ _ (a .0);
       fraction = ltb-true _ _ (b .0);
@@ -178,6 +191,7 @@ in-range f n e =
       tx = ltb-true _ _ (d .0);
       rx = ltb-true _ _ (g .0);
       room = leb-true _ _ (h .0);
+      version = v .0;
     }
 
 pub unrefused : (f : Fields) (n : ℕ) → Written f n → writeRefusal f n ≡ 0
@@ -189,16 +203,17 @@ unrefused f n w =
     (past _ 2 (lt-ltb _ _ (w .local))
     (past _ 2 (lt-ltb _ _ (w .tx))
     (past _ 2 (lt-ltb _ _ (w .rx))
-    (past _ 4 (le-leb _ _ (w .room)) refl))))))
+    (past _ 4 (le-leb _ _ (w .room))
+    (past _ 6 (w .version) refl)))))))
 
--- what holds of 2, 4 and 0 holds of the answer to fields
-pub write-is : (P : ℕ → Type 0) (f : Fields) (n : ℕ) → P 2 → P 4 → P 0 → P (writeRefusal f n)
+-- what holds of 2, 4, 6 and 0 holds of the answer to fields
+pub write-is : (P : ℕ → Type 0) (f : Fields) (n : ℕ) → P 2 → P 4 → P 6 → P 0 → P (writeRefusal f n)
 unfolding writeRefusal
-write-is P f n p q z =
+write-is P f n p q r z =
     unless-is P (ltb (f .grand .0) second) p
     (unless-is P (ltb (f .grand .1) second) p
     (unless-is P (ltb (f .local .0) circle) p
-    (unless-is P (ltb (f .tx .0) circle) p (unless-is P (ltb (f .rx .0) circle) p (unless-is P (leb frameLength n) q z)))))
+    (unless-is P (ltb (f .tx .0) circle) p (unless-is P (ltb (f .rx .0) circle) p (unless-is P (leb frameLength n) q (unless-is P (isVersion (f .version)) r z))))))
 
 -- what the refusal k makes of the output
 pub filled : (f : Fields) (k : ℕ) (out : List ℕ) → k ≡ writeRefusal f (length out) → k ≡ 0 → bytesOf f (drop frameLength out) ≡ writtenOf f out

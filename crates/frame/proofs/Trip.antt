@@ -1,5 +1,5 @@
 -- The round trips: an accepted frame, read and written, has its bytes; fields that are written and read are those fields.
--- And where precedence, hopCount, grand time and frameCount stand in a frame, as the numbers that their bytes make.
+-- And where precedence, version, hopCount, grand time, frameCount and errorTime stand in a frame, as the numbers that their bytes make.
 use mathlib.Core.Path.{_≡_, refl, sym, ap, _∙_, subst}
 use mathlib.Core.List.{List, [], _∷_, _++_, append-assoc}
 use Prim.Native.Nat.{ℕ, _+_, _*_, _^_, _<_, _≤_}
@@ -20,7 +20,7 @@ use Rattle.frame.specs.declared.Fields.{Fields}
 use Rattle.frame.specs.declared.Reading.the-variants.{Frame}
 use Rattle.numbers.proofs.Places.{number-add, onto-append, onto-split, length-digits, value-digits}
 use Rattle.numbers.proofs.Table.{held-at, held-parted, length-joined, joined-bytes, joined-append, joined-parted, parted-joined, drop-joined}
-use Rattle.frame.proofs.FrameLaws.{Accepted, accepted, by-rows, framed, reading, Written, in-range, unrefused, filled}
+use Rattle.frame.proofs.FrameLaws.{past, Accepted, accepted, by-rows, framed, reading, Written, in-range, unrefused, filled}
 
 -- ---- read, then written
 
@@ -31,15 +31,15 @@ rows-values s a =
     let v : ℕ → ℕ = λ k. getD (rowsOf s) k 0 in
     λ i. sym (a .da) i
     ∷ v 1 ∷ v 2 ∷ v 3 ∷ v 4 ∷ v 5 ∷ v 6
-    ∷ sym (a .protocolType) i ∷ sym (a .function) i ∷ sym (a .version) i
+    ∷ sym (a .protocolType) i ∷ sym (a .function) i ∷ v 9
     ∷ v 10 ∷ v 11 ∷ v 12 ∷ v 13 ∷ v 14
     ∷ v 15 ∷ v 16 ∷ sym (a .byte31) i
     ∷ v 18 ∷ v 19 ∷ v 20 ∷ v 21 ∷ v 22 ∷ v 23 ∷ []
 
--- the times of an accepted frame fit their rows
-rows-written : (s : List ℕ) (n : ℕ) → Bytes s → length s ≡ frameLength → frameLength ≤ n → Written (fieldsOf (rowsOf s)) n
-rows-written s n b l r =
-    let h : Held widths (rowsOf s) = held-parted widths 0 s b (omega arith) in
+-- the times of an accepted frame fit their rows, and its version is one
+rows-written : (s : List ℕ) (n : ℕ) → Bytes s → Accepted s → frameLength ≤ n → Written (fieldsOf (rowsOf s)) n
+rows-written s n b a r =
+    let h : Held widths (rowsOf s) = held-parted widths 0 s b (omega (arith, a .sized)) in
     record {
       seconds = held-at widths (rowsOf s) 18 h (lit< tt);
       fraction = held-at widths (rowsOf s) 19 h (lit< tt);
@@ -47,6 +47,7 @@ rows-written s n b l r =
       tx = held-at widths (rowsOf s) 21 h (lit< tt);
       rx = held-at widths (rowsOf s) 22 h (lit< tt);
       room = r;
+      version = a .version;
     }
 
 -- the bytes of an accepted frame's fields are the frame
@@ -65,7 +66,7 @@ read-written s out f b e r =
     let a = accepted s (q .0) in
     subst (λ (g : Fields). (writeRefusal g (length out) ≡ 0) × (writtenOf g out ≡ s ++ drop frameLength out)) (q .1)
     (let g = fieldsOf (rowsOf s) in
-    let z : writeRefusal g (length out) ≡ 0 = unrefused g (length out) (rows-written s (length out) b (a .sized) r) in
+    let z : writeRefusal g (length out) ≡ 0 = unrefused g (length out) (rows-written s (length out) b a r) in
     (z, sym (filled g 0 out (sym z) refl) ∙ rows-joined s (drop frameLength out) b a))
 
 -- ---- written, then read
@@ -86,11 +87,12 @@ written-first f out h e =
 pub written-read : (f : Fields) (out : List ℕ) → Typed f → writeRefusal f (length out) ≡ 0 → readOf (take frameLength (writtenOf f out)) ≡ Frame f
 written-read f out t e =
     let vs = valuesOf f in
-    let h : Held widths vs = values-held f (length out) t (in-range f (length out) e) in
+    let w = in-range f (length out) e in
+    let h : Held widths vs = values-held f (length out) t w in
     let s = joined widths vs [] in
     let rows : rowsOf s ≡ vs = parted-joined widths vs [] [] 0 refl h in
     ap readOf (written-first f out h e)
-    ∙ sym (framed 0 s (by-rows s vs (length-joined widths vs [] h) (sym rows)) refl)
+    ∙ sym (framed 0 s (past _ 6 (w .version) refl ∙ by-rows s vs (length-joined widths vs [] h) (sym rows)) refl)
     ∙ ap (λ (v : List ℕ). Frame (fieldsOf v)) rows
 
 -- ---- precedence
@@ -115,7 +117,7 @@ pub hop-number : (s : List ℕ) (f : Fields) → readOf s ≡ Frame f → f .hop
 unfolding parted
 hop-number s f e = ap (λ (g : Fields). g .hop) (sym (reading s f e .1))
 
--- ---- what a written frame is made of, and where it has its grand time, its hopCount and its frameCount
+-- ---- what a written frame is made of, and where it has its grand time, its version, its hopCount, its frameCount and its errorTime
 
 -- bytes, where what follows it is
 pub frame-bytes : (f : Fields) (t : List ℕ) → Bytes t → Bytes (bytesOf f t)
@@ -143,16 +145,26 @@ grand-bytes f t r =
     ∙ onto-split x (f .grand .0)
     ∙ (λ i. f .grand .0 * 256 ^ length-digits 5 (f .grand .1) i + value-digits 5 (f .grand .1) (r .fraction) i)
 
--- a row of a single byte makes its value
-byte-value : (v : ℕ) (rest : List ℕ) → v < 256 → onto 0 (take 1 (numberBytes 1 v ++ rest)) ≡ v
-byte-value v rest h = ap (onto 0) (take-at (numberBytes 1 v) rest 1 (length-digits 1 v)) ∙ value-digits 1 v h
+-- a row of n bytes makes its value
+row-value : (n v : ℕ) (rest : List ℕ) → v < 256 ^ n → onto 0 (take n (numberBytes n v ++ rest)) ≡ v
+row-value n v rest h = ap (onto 0) (take-at (numberBytes n v) rest n (length-digits n v)) ∙ value-digits n v h
+
+-- byte 15 is the version
+pub version-byte : (f : Fields) (t : List ℕ) → f .version < 256 → numberAt (bytesOf f t) 15 1 ≡ f .version
+unfolding joined
+version-byte f t h = ap (λ (l : List ℕ). onto 0 (take 1 l)) (rows-from f t 9 (lit≤ tt)) ∙ row-value 1 (f .version) (joined (drop 10 widths) (drop 10 (valuesOf f)) t) h
 
 -- byte 29 is the hopCount
 pub hop-byte : (f : Fields) (t : List ℕ) → f .hop < 256 → numberAt (bytesOf f t) 29 1 ≡ f .hop
 unfolding joined
-hop-byte f t h = ap (λ (l : List ℕ). onto 0 (take 1 l)) (rows-from f t 15 (lit≤ tt)) ∙ byte-value (f .hop) (joined (drop 16 widths) (drop 16 (valuesOf f)) t) h
+hop-byte f t h = ap (λ (l : List ℕ). onto 0 (take 1 l)) (rows-from f t 15 (lit≤ tt)) ∙ row-value 1 (f .hop) (joined (drop 16 widths) (drop 16 (valuesOf f)) t) h
 
 -- byte 30 is the frameCount
 pub count-byte : (f : Fields) (t : List ℕ) → f .count < 256 → numberAt (bytesOf f t) 30 1 ≡ f .count
 unfolding joined
-count-byte f t h = ap (λ (l : List ℕ). onto 0 (take 1 l)) (rows-from f t 16 (lit≤ tt)) ∙ byte-value (f .count) (joined (drop 17 widths) (drop 17 (valuesOf f)) t) h
+count-byte f t h = ap (λ (l : List ℕ). onto 0 (take 1 l)) (rows-from f t 16 (lit≤ tt)) ∙ row-value 1 (f .count) (joined (drop 17 widths) (drop 17 (valuesOf f)) t) h
+
+-- the four bytes from byte 60 on make the 32 bits of errorTime
+pub error-bytes : (f : Fields) (t : List ℕ) → f .error .0 < 2 ^ 32 → numberAt (bytesOf f t) 60 4 ≡ f .error .0
+unfolding joined
+error-bytes f t h = ap (λ (l : List ℕ). onto 0 (take 4 l)) (rows-from f t 23 (lit≤ tt)) ∙ row-value 4 (f .error .0) t h

@@ -18,3 +18,4 @@ pub record Typed (f : Fields) : Type 0 where
   pub hop : f .hop < 256
   pub count : f .count < 256
   pub error : f .error .0 < 2 ^ 32
+  pub version : f .version < 256

@@ -1,6 +1,8 @@
 -- The frame: a table of widths, what stands in each row, and the fields that are read off the rows.
 use Prim.Native.Nat.{ℕ, _+_}
+use mathlib.Core.Bool.{Bool, _||_}
 use mathlib.Core.List.{List, [], _∷_}
+use lib.Dec.{eqb}
 use lib.ListN.{getD}
 use Rattle.choice.specs.declared.Precedence.{Precedence}
 use Rattle.frame.specs.declared.Mac.{Mac}
@@ -9,7 +11,7 @@ use Rattle.frame.specs.declared.Fields.{Fields}
 abbrev pub frameLength : ℕ
 frameLength = 64
 
--- what stands in every frame: da 01-80-C2-00-00-0E, protocolType, function, version
+-- what stands in every frame: da 01-80-C2-00-00-0E, protocolType, function
 abbrev pub stationAddress : ℕ
 stationAddress = 0x0180C200000E
 
@@ -19,8 +21,15 @@ localExperimental = 0x88B5
 abbrev pub timeSync : ℕ
 timeSync = 1
 
+-- the versions that there are, and whether a number is one of them
 abbrev pub firstVersion : ℕ
 firstVersion = 1
+
+abbrev pub secondVersion : ℕ
+secondVersion = 2
+
+abbrev pub isVersion : ℕ → Bool
+isVersion version = eqb version firstVersion || eqb version secondVersion
 
 -- the width in bytes of each row, first to last
 abbrev pub widths : List ℕ
@@ -98,7 +107,7 @@ abbrev pub valuesOf : Fields → List ℕ
 valuesOf f =
     stationAddress
     ∷ f .sa .0 ∷ f .sa .1 ∷ f .sa .2 ∷ f .sa .3 ∷ f .sa .4 ∷ f .sa .5
-    ∷ localExperimental ∷ timeSync ∷ firstVersion
+    ∷ localExperimental ∷ timeSync ∷ f .version
     ∷ f .precedence .priority1 ∷ f .precedence .source ∷ f .precedence .variance ∷ f .precedence .priority2 ∷ f .precedence .clock
     ∷ f .hop ∷ f .count ∷ 0
     ∷ f .grand .0 ∷ f .grand .1
@@ -137,4 +146,5 @@ fieldsOf vs = record {
   tx = record { 0 = getD vs txRow 0 };
   rx = record { 0 = getD vs rxRow 0 };
   error = record { 0 = getD vs errorRow 0 };
+  version = getD vs versionRow 0;
 }

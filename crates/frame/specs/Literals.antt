@@ -5,13 +5,13 @@ use lib.ListN.{length, take, set}
 use Rattle.refusals.specs.Literals.{Literal, literal}
 use Rattle.numbers.specs.Bytes.{numberAt}
 use Rattle.frame.specs.Read.{readRefusal}
-use Rattle.frame.specs.Write.{bytesOf}
+use Rattle.frame.specs.Write.{writeRefusal, bytesOf}
 use Rattle.frame.specs.declared.Fields.{Fields}
 
--- fields that differ from each other, and from every fixed one
-abbrev fields : Fields
-fields = record {
-  sa = record { 0 = 2; 1 = 3; 2 = 4; 3 = 5; 4 = 6; 5 = 7 };
+-- fields of a version that differ from each other, and from every fixed one
+abbrev fieldsOfVersion : ℕ → Fields
+fieldsOfVersion version = record {
+  sa = record { 0 = 3; 1 = 4; 2 = 5; 3 = 6; 4 = 7; 5 = 21 };
   precedence = record { priority1 = 8; source = 9; variance = 10; priority2 = 11; clock = 12 };
   hop = 13;
   count = 14;
@@ -20,11 +20,12 @@ fields = record {
   tx = record { 0 = 18 };
   rx = record { 0 = 19 };
   error = record { 0 = 20 };
+  version = version;
 }
 
--- their frame, and the number in n of its bytes from a on
+-- their frame in version 2, and the number in n of its bytes from a on
 abbrev frame : List ℕ
-frame = bytesOf fields []
+frame = bytesOf (fieldsOfVersion 2) []
 
 abbrev bytes : ℕ → ℕ → ℕ
 bytes a n = numberAt frame a n
@@ -37,14 +38,14 @@ unfoldable pub frameLiterals : List Literal
 frameLiterals =
     -- 64 bytes
     literal (length frame) 64
-    -- da 01-80-C2-00-00-0E, protocolType 88B5, function 1, version 1, byte 31 zero
+    -- da 01-80-C2-00-00-0E, protocolType 88B5, function 1, byte 31 zero; version
     ∷ literal (bytes 0 6) 0x0180C200000E
     ∷ literal (bytes 12 2) 0x88B5
     ∷ literal (bytes 14 1) 1
-    ∷ literal (bytes 15 1) 1
     ∷ literal (bytes 31 1) 0
+    ∷ literal (bytes 15 1) 2
     -- sa; precedence: priority1, timeSource, variance, priority2, clockID
-    ∷ literal (bytes 6 6) 0x020304050607
+    ∷ literal (bytes 6 6) 0x030405060715
     ∷ literal (bytes 16 1) 8
     ∷ literal (bytes 17 1) 9
     ∷ literal (bytes 18 2) 10
@@ -69,8 +70,19 @@ frameLiterals =
     ∷ literal (with 13 0) 5
     ∷ literal (with 14 2) 5
     ∷ literal (with 31 1) 5
-    ∷ literal (with 15 2) 6
+    ∷ literal (with 15 0) 6
+    ∷ literal (with 15 3) 6
+    ∷ literal (with 15 255) 6
+    -- version 1 is read too
+    ∷ literal (with 15 1) 0
     -- sa has any value, and hop 255 is read
     ∷ literal (with 6 255) 0
     ∷ literal (with 29 255) 0
+    -- Write takes version 1 and version 2 and no other; 4 comes before 6
+    ∷ literal (writeRefusal (fieldsOfVersion 1) 64) 0
+    ∷ literal (writeRefusal (fieldsOfVersion 2) 64) 0
+    ∷ literal (writeRefusal (fieldsOfVersion 0) 64) 6
+    ∷ literal (writeRefusal (fieldsOfVersion 3) 64) 6
+    ∷ literal (writeRefusal (fieldsOfVersion 255) 64) 6
+    ∷ literal (writeRefusal (fieldsOfVersion 3) 63) 4
     ∷ []

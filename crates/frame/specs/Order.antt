@@ -7,6 +7,10 @@ use Rattle.refusals.specs.Order.{Condition, given}
 use Rattle.numbers.specs.Bytes.{numberAt}
 use Rattle.frame.specs.declared.Fields.{Fields}
 
+-- neither version 1 nor version 2
+abbrev pub NoVersion : ℕ → Type 0
+NoVersion version = (version ≢ 1) × (version ≢ 2)
+
 -- Read: the length; da, protocolType, function and byte 31; version
 abbrev pub readConditions : List ℕ → List Condition
 readConditions s =
@@ -15,10 +19,10 @@ readConditions s =
     ∷ given 5 (numberAt s 12 2 ≢ 0x88B5)
     ∷ given 5 (numberAt s 14 1 ≢ 1)
     ∷ given 5 (numberAt s 31 1 ≢ 0)
-    ∷ given 6 (numberAt s 15 1 ≢ 1)
+    ∷ given 6 (NoVersion (numberAt s 15 1))
     ∷ []
 
--- Write, into an output of so many bytes: seconds and fraction of grandTime, the three local times, the output
+-- Write, into an output of so many bytes: seconds and fraction of grandTime, the three local times, the output, the version
 abbrev pub writeConditions : Fields → ℕ → List Condition
 writeConditions f room =
     given 2 (2 ^ 40 ≤ f .grand .0)
@@ -27,4 +31,5 @@ writeConditions f room =
     ∷ given 2 (2 ^ 48 ≤ f .tx .0)
     ∷ given 2 (2 ^ 48 ≤ f .rx .0)
     ∷ given 4 (room < 64)
+    ∷ given 6 (NoVersion (f .version))
     ∷ []

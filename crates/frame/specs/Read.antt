@@ -7,7 +7,7 @@ use lib.Dec.{eqb}
 use Rattle.refusals.specs.Refusals.{done, wrongLength, wrongConstant, wrongVersion}
 pub use Rattle.refusals.specs.Chain.{unless}
 use Rattle.numbers.specs.Table.{parted}
-use Rattle.frame.specs.Frame.{frameLength, stationAddress, localExperimental, timeSync, firstVersion, widths, daRow, protocolTypeRow, functionRow, versionRow, zeroRow, fieldsOf}
+use Rattle.frame.specs.Frame.{frameLength, stationAddress, localExperimental, timeSync, isVersion, widths, daRow, protocolTypeRow, functionRow, versionRow, zeroRow, fieldsOf}
 use Rattle.frame.specs.declared.Fields.{Fields}
 use Rattle.frame.specs.declared.Reading.{Reading}
 use Rattle.frame.specs.declared.Reading.the-variants.{Frame, Refused}
@@ -16,14 +16,14 @@ use Rattle.frame.specs.declared.Reading.the-variants.{Frame, Refused}
 abbrev pub rowsOf : List ℕ → List ℕ
 rowsOf s = parted widths 0 s
 
--- 5 for a wrong da, protocolType, function or byte 31, 6 for a wrong version, or 0
+-- 5 for a wrong da, protocolType, function or byte 31, 6 for a version that there is not, or 0
 abbrev pub constantsRefusal : List ℕ → ℕ
 constantsRefusal vs =
     unless (eqb (getD vs daRow 0) stationAddress) wrongConstant
     (unless (eqb (getD vs protocolTypeRow 0) localExperimental) wrongConstant
     (unless (eqb (getD vs functionRow 0) timeSync) wrongConstant
     (unless (eqb (getD vs zeroRow 0) 0) wrongConstant
-    (unless (eqb (getD vs versionRow 0) firstVersion) wrongVersion done))))
+    (unless (isVersion (getD vs versionRow 0)) wrongVersion done))))
 
 -- 4 for a wrong length, then 5 and 6, or 0
 unfoldable pub readRefusal : List ℕ → ℕ

@@ -7,11 +7,11 @@ use Rattle.refusals.specs.Refusals.{done, wrongLength, wrongConstant, wrongVers
 use Rattle.refusals.specs.Chain.{unless}
 use Rattle.numbers.specs.Bytes.{numberAt}
 use Rattle.choice.specs.declared.Precedence.{Precedence}
-use Rattle.frame.specs.Frame.{frameLength, stationAddress, localExperimental, timeSync, firstVersion}
+use Rattle.frame.specs.Frame.{frameLength, stationAddress, localExperimental, timeSync, isVersion}
 use Rattle.frame.specs.declared.Mac.{Mac}
 use Rattle.frame.specs.declared.Fields.{Fields}
 
--- 4 for a wrong length; 5 for a wrong da (bytes 0-5), protocolType (12-13), function (14) or byte 31; 6 for a wrong version (15); or 0
+-- 4 for a wrong length; 5 for a wrong da (bytes 0-5), protocolType (12-13), function (14) or byte 31; 6 for a version (15) that there is not; or 0
 abbrev pub bytesRefusal : List ℕ → ℕ
 bytesRefusal s =
     unless (eqb (length s) frameLength) wrongLength
@@ -19,7 +19,7 @@ bytesRefusal s =
     (unless (eqb (numberAt s 12 2) localExperimental) wrongConstant
     (unless (eqb (numberAt s 14 1) timeSync) wrongConstant
     (unless (eqb (numberAt s 31 1) 0) wrongConstant
-    (unless (eqb (numberAt s 15 1) firstVersion) wrongVersion done)))))
+    (unless (isVersion (numberAt s 15 1)) wrongVersion done)))))
 
 -- sa: bytes 6-11
 abbrev pub saAt : List ℕ → Mac
@@ -42,7 +42,7 @@ precedenceBy s = record {
   clock = numberAt s 21 8;
 }
 
--- hopCount 29, frameCount 30, grandTime 32-41 in seconds and fraction, localTime 42-47, thatTxTime 48-53, thatRxTime 54-59, errorTime 60-63
+-- hopCount 29, frameCount 30, grandTime 32-41 in seconds and fraction, localTime 42-47, thatTxTime 48-53, thatRxTime 54-59, errorTime 60-63; version 15
 abbrev pub fieldsAt : List ℕ → Fields
 fieldsAt s = record {
   sa = saAt s;
@@ -54,4 +54,5 @@ fieldsAt s = record {
   tx = record { 0 = numberAt s 48 6 };
   rx = record { 0 = numberAt s 54 6 };
   error = record { 0 = numberAt s 60 4 };
+  version = numberAt s 15 1;
 }

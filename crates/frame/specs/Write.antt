@@ -3,14 +3,14 @@ use Prim.Native.Nat.{ℕ, zero, suc}
 use mathlib.Core.List.{List}
 use lib.ListN.{length, drop}
 use lib.Dec.{ltb, leb}
-use Rattle.refusals.specs.Refusals.{done, outOfRange, wrongLength}
+use Rattle.refusals.specs.Refusals.{done, outOfRange, wrongLength, wrongVersion}
 use Rattle.refusals.specs.Chain.{unless}
 use Rattle.times.specs.Times.{second, circle}
 use Rattle.numbers.specs.Table.{joined}
-use Rattle.frame.specs.Frame.{frameLength, widths, valuesOf}
+use Rattle.frame.specs.Frame.{frameLength, isVersion, widths, valuesOf}
 use Rattle.frame.specs.declared.Fields.{Fields}
 
--- 2 for a time out of range, 4 for an output that is too short, or 0
+-- 2 for a time out of range, 4 for an output that is too short, 6 for a version that there is not, or 0
 unfoldable pub writeRefusal : Fields → ℕ → ℕ
 writeRefusal f room =
     unless (ltb (f .grand .0) second) outOfRange
@@ -18,7 +18,8 @@ writeRefusal f room =
     (unless (ltb (f .local .0) circle) outOfRange
     (unless (ltb (f .tx .0) circle) outOfRange
     (unless (ltb (f .rx .0) circle) outOfRange
-    (unless (leb frameLength room) wrongLength done)))))
+    (unless (leb frameLength room) wrongLength
+    (unless (isVersion (f .version)) wrongVersion done))))))
 
 -- the frame's 64 bytes, and then t
 unfoldable pub bytesOf : Fields → List ℕ → List ℕ

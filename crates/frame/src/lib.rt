@@ -1,5 +1,6 @@
 // The timeSync frame of 64 bytes: read, written, and the better of two.
 pub mod layout;
+pub mod version;
 
 use choice::Precedence;
 use times::ErrorTime;
@@ -20,6 +21,7 @@ pub struct Fields {
     pub tx: LocalTime,
     pub rx: LocalTime,
     pub error: ErrorTime,
+    pub version: u8,
 }
 
 // What reading finds: a frame's fields, or the refusal's number.

@@ -9,6 +9,7 @@ use frame::Fields;
 use frame::Mac;
 use frame::Reading;
 use frame::layout;
+use frame::version;
 use times::ErrorTime;
 use times::GrandTime;
 use times::LocalTime;
@@ -19,8 +20,6 @@ pub const STATION_ADDRESS: u64 = 0x0180_C200_000E;
 pub const LOCAL_EXPERIMENTAL: u64 = 0x88B5;
 
 pub const TIME_SYNC: u64 = 1;
-
-pub const FIRST_VERSION: u64 = 1;
 
 // Why the constants of a frame are refused, or 0.
 fn constants_refusal(values: [u64; 24]) -> u8
@@ -38,10 +37,10 @@ fn constants_refusal(values: [u64; 24]) -> u8
     if values[layout::ZERO] != 0 {
         return refusals::WRONG_CONSTANT;
     }
-    if values[layout::VERSION] != FIRST_VERSION {
-        return refusals::WRONG_VERSION;
+    if version::is_version(values[layout::VERSION]) {
+        return refusals::DONE;
     }
-    refusals::DONE
+    refusals::WRONG_VERSION
 }
 
 // The sender's address.
@@ -90,6 +89,7 @@ fn fields(values: [u64; 24]) -> Fields
         tx: LocalTime(values[layout::TX]),
         rx: LocalTime(values[layout::RX]),
         error: ErrorTime(values[layout::ERROR] as u32),
+        version: values[layout::VERSION] as u8,
     }
 }
 

@@ -7,6 +7,7 @@ ghost use Rattle.frame.specs.Write.{writeRefusal, bytesOf};
 ghost use Rattle.frame.specs.Promises.{WritePromise};
 use frame::Fields;
 use frame::layout;
+use frame::version;
 use times::grand;
 use times::local;
 
@@ -24,7 +25,7 @@ fn values(f: Fields) -> [u64; 24]
         f.sa.5 as u64,
         frame_read::LOCAL_EXPERIMENTAL,
         frame_read::TIME_SYNC,
-        frame_read::FIRST_VERSION,
+        f.version as u64,
         f.precedence.priority1 as u64,
         f.precedence.source as u64,
         f.precedence.variance as u64,
@@ -64,7 +65,10 @@ fn write_refusal(f: Fields, room: usize) -> u8
     if room < layout::FRAME_LENGTH {
         return refusals::WRONG_LENGTH;
     }
-    refusals::DONE
+    if version::is_version(f.version as u64) {
+        return refusals::DONE;
+    }
+    refusals::WRONG_VERSION
 }
 
 // Fills the first 64 bytes of an output that has room for them with the frame.
@@ -75,7 +79,7 @@ pub fn put(f: Fields, out: &mut [u8])
     layout::fill(values(f), out);
 }
 
-// Fills the first 64 bytes of out with the frame and answers 0, or answers 2 or 4 and out stays.
+// Fills the first 64 bytes of out with the frame and answers 0, or answers 2, 4 or 6 and out stays.
 pub fn write(f: Fields, out: &mut [u8]) -> u8
     ensures { λ r. ⌜ WritePromise f (now (out .entry)) r (now (out .exit)) ⌝ }
 {

@@ -3,4 +3,5 @@ pub mod Leaves
 pub mod Literals
 pub mod Order
 pub mod Edges
+pub mod Versions
 pub mod ListenerLaws

@@ -26,11 +26,11 @@ use native.Mathlib.Omega.{arith}
 use lib.Dec.{lit<}
 
 -- the delay that the neighbour works out is the same as by a frame that names a clock: steps 1 and 2 go by localTime and the echo
-pub measured-alike : (setting : DelaySetting) (there : Pair) (p : LocalTime) (sender : Sender) (t : LocalTime) (port : Port) (precedence : Precedence) (hop : ℕ) (grand : GrandTime) (error : ErrorTime)
-    → let f = listenerFrame sender t port in
-    let g = frameOf sender precedence hop t grand error port in
+pub measured-alike : (setting : DelaySetting) (there : Pair) (p : LocalTime) (sender : Sender) (version : ℕ) (t : LocalTime) (port : Port) (precedence : Precedence) (hop : ℕ) (grand : GrandTime) (error : ErrorTime)
+    → let f = listenerFrame sender version t port in
+    let g = frameOf sender version precedence hop t grand error port in
     linkDelayOf setting (neighbourRateOf there (f .local) p) (f .local) p (f .tx) (f .rx) ≡ linkDelayOf setting (neighbourRateOf there (g .local) p) (g .local) p (g .tx) (g .rx)
-measured-alike setting there p sender t port precedence hop grand error = refl
+measured-alike setting there p sender version t port precedence hop grand error = refl
 
 -- the hop of such a frame is held as the last, whatever is chosen
 pub listener-hop : (chosen : ℕ) → hopOf listenerHop chosen ≡ lastHop

@@ -22,7 +22,7 @@ use Rattle.samples.specs.declared.Pair.the-variants.{Unset, Set}
 use Rattle.delay.specs.Delay.{linkDelayOf}
 use Rattle.timeline.specs.declared.Sent.{Sent}
 use Rattle.timeline.specs.declared.Sent.the-variants.{At, Few, Late, Beyond}
-use Rattle.timeline.specs.Sent.{sentOf}
+use Rattle.timeline.specs.Sent.{longestElapsed, sentOf}
 use Rattle.delay.specs.declared.Delay.{Delay}
 use Rattle.delay.specs.declared.Delay.the-variants.{Is, TooLong}
 use Rattle.choice.specs.Precedence.{worstPrecedence}
@@ -31,7 +31,7 @@ use Rattle.choice.specs.declared.Precedence.{Precedence}
 use Rattle.choice.specs.declared.Announcement.the-variants.{Announced}
 use Rattle.choice.specs.declared.Candidate.{Candidate}
 use Rattle.choice.specs.declared.Candidate.the-variants.{Nothing, Clock}
-use Rattle.frame.specs.Frame.{frameLength, widths}
+use Rattle.frame.specs.Frame.{frameLength, secondVersion, isVersion, widths}
 use Rattle.frame.specs.Read.{rowsOf, readOf}
 use Rattle.frame.specs.Write.{writeRefusal}
 use Rattle.frame.specs.Demands.{Typed}
@@ -41,7 +41,7 @@ use Rattle.port.specs.Record.{silenced, tooOld, agedPort, emptyPort, use
 use Rattle.port.specs.Lawful.{LawfulPreceding, LawfulAnnouncement, LawfulPair, LawfulPort, LawfulClock, LawfulMac, FieldsInRange}
 use Rattle.port.specs.Own.{storedAs, ownSample, ownReadingBy, ownReadingOf}
 use Rattle.port.specs.Receive.{sampleOf, sameClock, takenPort, refusedBy, delayedBy, followedBy, countedBy, receivedOf}
-use Rattle.port.specs.Send.{echoTx, echoRx, frameOf, sendingBy, clockSending, listenerHop, noGrandTime, noErrorTime, listenerFrame, profileSending, sendingOf, sendingNo, sendingDone}
+use Rattle.port.specs.Send.{echoTx, echoRx, frameOf, restOf, sendingBy, clockSending, listenerHop, noGrandTime, noErrorTime, listenerFrame, profileSending, sendingOf, sendingNo, sendingDone}
 use Rattle.port.specs.declared.Setting.{Setting}
 use Rattle.port.specs.declared.Profile.{Profile}
 use Rattle.port.specs.declared.Profile.the-variants.{Full, Listener}
@@ -57,11 +57,11 @@ use Rattle.port.specs.declared.ClockDone.{ClockDone}
 use Rattle.numbers.proofs.Table.{held-at, held-parted}
 use Rattle.numbers.proofs.Branches.{if-true, if-false, if-when}
 use Rattle.times.proofs.TimeLaws.{since-lt}
-use Rattle.samples.proofs.KeepLaws.{kept-lawful, ends-lawful}
+use Rattle.samples.proofs.KeepLaws.{kept-lawful}
 use Rattle.timeline.proofs.SentLaws.{Departure, departure}
 use Rattle.choice.proofs.HopLaws.{hop-within}
 use Rattle.choice.proofs.WorstLaws.{worst-fits}
-use Rattle.frame.proofs.FrameLaws.{accepted, reading, unrefused}
+use Rattle.frame.proofs.FrameLaws.{version-small, accepted, reading, unrefused}
 
 -- ---- record
 
@@ -177,84 +177,95 @@ own-reading-is count grand at clock P refuse take = go (clock .preceding) refl
 
 -- ---- sending
 
-module _ (choice : Candidate) (samples : Samples) (sender : Sender) (t : LocalTime) (port : Port) where
-  -- a full bridge's, by the choice
-  pub send-none : choice ≡ Nothing → Refused 10 ≡ clockSending choice samples sender t port
-  send-none e = ap (λ (x : Candidate). clockSending x samples sender t port) (sym e)
+-- what errorTime makes up for, by the version
+pub rest-second : (version back : ℕ) → version ≡ secondVersion → back ≡ restOf version back
+rest-second version back e = if-true _ _ _ (eq-eqb _ _ e)
 
-  pub send-by : {p : Precedence} {h n : ℕ} {s : Sent} → choice ≡ Clock p h n → s ≡ sentOf samples t (sender .back)
-      → sendingBy s sender p h t port ≡ clockSending choice samples sender t port
+pub rest-other : (version back : ℕ) → (version ≡ secondVersion → ⊥) → 0 ≡ restOf version back
+rest-other version back e = if-false _ _ _ (ne-eqb _ _ e)
+
+-- it is within the bounds of backTime
+pub rest-small : (version back : ℕ) → back < longestElapsed → restOf version back < longestElapsed
+rest-small version back h = if-when (λ (n : ℕ). n < longestElapsed) (eqb version secondVersion) (λ _. h) (λ _. lit< tt)
+
+module _ (choice : Candidate) (samples : Samples) (sender : Sender) (version : ℕ) (t : LocalTime) (port : Port) where
+  -- a full bridge's, by the choice
+  pub send-none : choice ≡ Nothing → Refused 10 ≡ clockSending choice samples sender version t port
+  send-none e = ap (λ (x : Candidate). clockSending x samples sender version t port) (sym e)
+
+  pub send-by : {p : Precedence} {h n : ℕ} {s : Sent} → choice ≡ Clock p h n → s ≡ sentOf samples t (sender .back) (restOf version (sender .back))
+      → sendingBy s sender version p h t port ≡ clockSending choice samples sender version t port
   send-by {p} {h} {n} e g =
-      ap (λ (x : Sent). sendingBy x sender p h t port) g ∙ ap (λ (x : Candidate). clockSending x samples sender t port) (sym e)
+      ap (λ (x : Sent). sendingBy x sender version p h t port) g ∙ ap (λ (x : Candidate). clockSending x samples sender version t port) (sym e)
 
   -- by the profile
-  pub send-as : (profile : Profile) → sender .profile ≡ profile → profileSending profile choice samples sender t port ≡ sendingOf choice samples sender t port
+  pub send-as : (profile : Profile) → sender .profile ≡ profile → profileSending profile choice samples sender version t port ≡ sendingOf choice samples sender version t port
   unfolding sendingOf
-  send-as profile e = ap (λ (x : Profile). profileSending x choice samples sender t port) (sym e)
+  send-as profile e = ap (λ (x : Profile). profileSending x choice samples sender version t port) (sym e)
 
   -- where no clock is chosen the samples do not matter
-  pub send-unchosen : (others : Samples) → sendingOf Nothing samples sender t port ≡ sendingOf Nothing others sender t port
+  pub send-unchosen : (others : Samples) → sendingOf Nothing samples sender version t port ≡ sendingOf Nothing others sender version t port
   unfolding sendingOf
   send-unchosen others = of (sender .profile)
     where
-      of : (profile : Profile) → profileSending profile Nothing samples sender t port ≡ profileSending profile Nothing others sender t port
+      of : (profile : Profile) → profileSending profile Nothing samples sender version t port ≡ profileSending profile Nothing others sender version t port
       of Full = refl
       of Listener = refl
 
   -- what holds of a full bridge's refusal with 10 to 13, of its frame for the chosen clock, and of a listener's frame, holds of what is sent
   pub sending-is : (P : Sending → Type 0) → ((k : ℕ) → sender .profile ≡ Full → 10 ≤ k → k ≤ 13 → P (Refused k))
-      → ((p : Precedence) (h n : ℕ) (g : GrandTime) (x : ErrorTime) → sender .profile ≡ Full → choice ≡ Clock p h n → sentOf samples t (sender .back) ≡ At g x
-      → P (Frame (frameOf sender p h t g x port)))
-      → (sender .profile ≡ Listener → P (Frame (listenerFrame sender t port)))
-      → P (sendingOf choice samples sender t port)
+      → ((p : Precedence) (h n : ℕ) (g : GrandTime) (x : ErrorTime) → sender .profile ≡ Full → choice ≡ Clock p h n → sentOf samples t (sender .back) (restOf version (sender .back)) ≡ At g x
+      → P (Frame (frameOf sender version p h t g x port)))
+      → (sender .profile ≡ Listener → P (Frame (listenerFrame sender version t port)))
+      → P (sendingOf choice samples sender version t port)
   unfolding sendingOf
   sending-is P refuse send listen = of (sender .profile) refl
     where
-      by : (s : Sent) → sentOf samples t (sender .back) ≡ s → sender .profile ≡ Full → (p : Precedence) (h n : ℕ) → choice ≡ Clock p h n
-          → P (sendingBy s sender p h t port)
+      by : (s : Sent) → sentOf samples t (sender .back) (restOf version (sender .back)) ≡ s → sender .profile ≡ Full → (p : Precedence) (h n : ℕ) → choice ≡ Clock p h n
+          → P (sendingBy s sender version p h t port)
       by (At g x) q f p h n e = send p h n g x f e q
       by Few q f p h n e = refuse 11 f (omega arith) (omega arith)
       by Late q f p h n e = refuse 12 f (omega arith) (omega arith)
       by Beyond q f p h n e = refuse 13 f (omega arith) (omega arith)
 
-      chosen : (c : Candidate) → choice ≡ c → sender .profile ≡ Full → P (clockSending c samples sender t port)
+      chosen : (c : Candidate) → choice ≡ c → sender .profile ≡ Full → P (clockSending c samples sender version t port)
       chosen Nothing e f = refuse 10 f (omega arith) (omega arith)
-      chosen (Clock p h n) e f = by (sentOf samples t (sender .back)) refl f p h n e
+      chosen (Clock p h n) e f = by (sentOf samples t (sender .back) (restOf version (sender .back))) refl f p h n e
 
-      of : (profile : Profile) → sender .profile ≡ profile → P (profileSending profile choice samples sender t port)
+      of : (profile : Profile) → sender .profile ≡ profile → P (profileSending profile choice samples sender version t port)
       of Full f = chosen choice refl f
       of Listener l = listen l
 
 -- a frame that a full bridge sends is one for the chosen clock: its fields are those of `frameOf`, with what was read off the clock's samples
-pub record SentFor (choice : Candidate) (samples : Samples) (sender : Sender) (t : LocalTime) (port : Port) (f : Fields) : Type 0 where
+pub record SentFor (choice : Candidate) (samples : Samples) (sender : Sender) (version : ℕ) (t : LocalTime) (port : Port) (f : Fields) : Type 0 where
   pub precedence : Precedence
   pub hop : ℕ
   pub number : ℕ
   pub grand : GrandTime
   pub error : ErrorTime
   pub chosen : choice ≡ Clock precedence hop number
-  pub sent : sentOf samples t (sender .back) ≡ At grand error
-  pub same : frameOf sender precedence hop t grand error port ≡ f
+  pub sent : sentOf samples t (sender .back) (restOf version (sender .back)) ≡ At grand error
+  pub same : frameOf sender version precedence hop t grand error port ≡ f
 
 -- a grand time and an errorTime that are read off two samples
-abbrev pub ReadOff : Samples → LocalTime → ℕ → Fields → Type 0
-ReadOff samples t back f = Departure samples t back (f .grand) (f .error)
+abbrev pub ReadOff : Samples → LocalTime → ℕ → ℕ → Fields → Type 0
+ReadOff samples t back rest f = Departure samples t back rest (f .grand) (f .error)
 
 -- of every frame, whatever it says of a clock
-module _ (sender : Sender) (t : LocalTime) (port : Port) (precedence : Precedence) (hop : ℕ) (grand : GrandTime) (error : ErrorTime) (lawful : LawfulPort port) where
-  -- its times are in range, so Write takes it
-  frame-written : InRange grand → t .0 < circle → (room : ℕ) → frameLength ≤ room → writeRefusal (frameOf sender precedence hop t grand error port) room ≡ 0
-  frame-written w ht room r =
+module _ (sender : Sender) (version : ℕ) (t : LocalTime) (port : Port) (precedence : Precedence) (hop : ℕ) (grand : GrandTime) (error : ErrorTime) (lawful : LawfulPort port) where
+  -- its times are in range and its version is one, so Write takes it
+  frame-written : isVersion version ≡ true → InRange grand → t .0 < circle → (room : ℕ) → frameLength ≤ room → writeRefusal (frameOf sender version precedence hop t grand error port) room ≡ 0
+  frame-written known w ht room r =
       let m = echo-small (port .echo) (lawful .echo) in
-      unrefused (frameOf sender precedence hop t grand error port) room (record { seconds = w .seconds; fraction = w .fraction; local = ht; tx = m .0; rx = m .1; room = r })
+      unrefused (frameOf sender version precedence hop t grand error port) room (record { seconds = w .seconds; fraction = w .fraction; local = ht; tx = m .0; rx = m .1; room = r; version = known })
     where
       echo-small : (s : Pair) → LawfulPair s → (echoTx s .0 < circle) × (echoRx s .0 < circle)
       echo-small Unset q = (omega arith, omega arith)
       echo-small (Set a b) q = q
 
   -- each of its other fields has its bits
-  frame-typed : LawfulMac (sender .mac) → PrecedenceFits precedence → hop < 2 ^ 8 → error .0 < 2 ^ 32 → Typed (frameOf sender precedence hop t grand error port)
-  frame-typed mac p h e = record {
+  frame-typed : isVersion version ≡ true → LawfulMac (sender .mac) → PrecedenceFits precedence → hop < 2 ^ 8 → error .0 < 2 ^ 32 → Typed (frameOf sender version precedence hop t grand error port)
+  frame-typed known mac p h e = record {
     sa0 = mac .byte0;
     sa1 = mac .byte1;
     sa2 = mac .byte2;
@@ -269,67 +280,71 @@ module _ (sender : Sender) (t : LocalTime) (port : Port) (precedence : Precedenc
     hop = h;
     count = lawful .count;
     error = e;
+    version = version-small version known;
   }
 
-module _ (choice : Candidate) (samples : Samples) (sender : Sender) (t : LocalTime) (port : Port) where
+module _ (choice : Candidate) (samples : Samples) (sender : Sender) (version : ℕ) (t : LocalTime) (port : Port) where
   -- where the answer is 0 there is a frame
-  pub sending-frame : sendingNo (sendingOf choice samples sender t port) ≡ 0 → (f : Fields) × (sendingOf choice samples sender t port ≡ Frame f)
+  pub sending-frame : sendingNo (sendingOf choice samples sender version t port) ≡ 0 → (f : Fields) × (sendingOf choice samples sender version t port ≡ Frame f)
   sending-frame =
-      sending-is choice samples sender t port (λ (s : Sending). sendingNo s ≡ 0 → (f : Fields) × (s ≡ Frame f))
+      sending-is choice samples sender version t port (λ (s : Sending). sendingNo s ≡ 0 → (f : Fields) × (s ≡ Frame f))
       (λ k _ l _ e. absurd (omega arith))
-      (λ p h n g x _ _ _ _. (frameOf sender p h t g x port, refl))
-      (λ _ _. (listenerFrame sender t port, refl))
+      (λ p h n g x _ _ _ _. (frameOf sender version p h t g x port, refl))
+      (λ _ _. (listenerFrame sender version t port, refl))
 
-  module _ (f : Fields) (framed : sendingOf choice samples sender t port ≡ Frame f) where
+  module _ (f : Fields) (framed : sendingOf choice samples sender version t port ≡ Frame f) where
     -- what holds of a full bridge's frame for the chosen clock, and of a listener's, holds of a frame that is sent
     sending-framed : (P : Fields → Type 0)
-        → ((p : Precedence) (h n : ℕ) (g : GrandTime) (x : ErrorTime) → sender .profile ≡ Full → choice ≡ Clock p h n → sentOf samples t (sender .back) ≡ At g x
-        → P (frameOf sender p h t g x port))
-        → (sender .profile ≡ Listener → P (listenerFrame sender t port)) → P f
+        → ((p : Precedence) (h n : ℕ) (g : GrandTime) (x : ErrorTime) → sender .profile ≡ Full → choice ≡ Clock p h n → sentOf samples t (sender .back) (restOf version (sender .back)) ≡ At g x
+        → P (frameOf sender version p h t g x port))
+        → (sender .profile ≡ Listener → P (listenerFrame sender version t port)) → P f
     sending-framed P send listen =
-        sending-is choice samples sender t port (λ (s : Sending). s ≡ Frame f → P f)
+        sending-is choice samples sender version t port (λ (s : Sending). s ≡ Frame f → P f)
         (λ k _ _ _ e. let z : _≡_ {A = ℕ} 0 1 = cc in absurd (omega arith))
-        (λ p h n g x u c q e. let same : frameOf sender p h t g x port ≡ f = cc in subst P same (send p h n g x u c q))
-        (λ l e. let same : listenerFrame sender t port ≡ f = cc in subst P same (listen l))
+        (λ p h n g x u c q e. let same : frameOf sender version p h t g x port ≡ f = cc in subst P same (send p h n g x u c q))
+        (λ l e. let same : listenerFrame sender version t port ≡ f = cc in subst P same (listen l))
         framed
 
     -- a full bridge's is one for the chosen clock
-    pub sending-for : sender .profile ≡ Full → SentFor choice samples sender t port f
+    pub sending-for : sender .profile ≡ Full → SentFor choice samples sender version t port f
     sending-for full =
-        sending-framed (SentFor choice samples sender t port)
+        sending-framed (SentFor choice samples sender version t port)
         (λ p h n g x _ c q. record { precedence = p; hop = h; number = n; grand = g; error = x; chosen = c; sent = q; same = refl })
         (λ l. let both = sym full ∙ l in let z : _≡_ {A = ℕ} 0 1 = cc in absurd (omega arith))
 
     -- its grand time and errorTime are read off the samples
-    pub sending-read-off : sender .profile ≡ Full → ReadOff samples t (sender .back) f
-    sending-read-off full = let s = sending-for full in subst (ReadOff samples t (sender .back)) (s .same) (departure samples t (sender .back) (s .grand) (s .error) (s .sent))
+    pub sending-read-off : sender .profile ≡ Full → ReadOff samples t (sender .back) (restOf version (sender .back)) f
+    sending-read-off full =
+        let s = sending-for full in
+        subst (ReadOff samples t (sender .back) (restOf version (sender .back))) (s .same) (departure samples t (sender .back) (restOf version (sender .back)) (s .grand) (s .error) (s .sent))
 
     -- a listener's is the one that it always sends
-    pub sending-listens : sender .profile ≡ Listener → f ≡ listenerFrame sender t port
+    pub sending-listens : sender .profile ≡ Listener → f ≡ listenerFrame sender version t port
     sending-listens l =
-        sending-framed (λ (g : Fields). g ≡ listenerFrame sender t port)
+        sending-framed (λ (g : Fields). g ≡ listenerFrame sender version t port)
         (λ _ _ _ _ _ full _ _. let both = sym full ∙ l in let z : _≡_ {A = ℕ} 0 1 = cc in absurd (omega arith))
         (λ _. refl)
 
-    -- of either, its frameCount is the port's next, Write takes it, and each field has its bits
+    -- of either, its version is the one that was asked for, its frameCount is the port's next, Write takes it, and each field has its bits
+    pub sending-version : f .version ≡ version
+    sending-version = sending-framed (λ (g : Fields). g .version ≡ version) (λ _ _ _ _ _ _ _ _. refl) (λ _. refl)
+
     pub sending-count : f .count ≡ port .count
     sending-count = sending-framed (λ (g : Fields). g .count ≡ port .count) (λ _ _ _ _ _ _ _ _. refl) (λ _. refl)
 
-    pub sending-written : (room : ℕ) → t .0 < circle → LawfulPort port → frameLength ≤ room → writeRefusal f room ≡ 0
-    sending-written room ht l r =
+    pub sending-written : isVersion version ≡ true → (room : ℕ) → t .0 < circle → LawfulPort port → frameLength ≤ room → writeRefusal f room ≡ 0
+    sending-written known room ht l r =
         sending-framed (λ (f : Fields). writeRefusal f room ≡ 0)
-        (λ p h n g x _ _ q. frame-written sender t port p h g x l (departure samples t (sender .back) g x q .range) ht room r)
-        (λ _. frame-written sender t port worstPrecedence listenerHop noGrandTime noErrorTime l (record { seconds = lit< tt; fraction = lit< tt }) ht room r)
+        (λ p h n g x _ _ q. frame-written sender version t port p h g x l known (departure samples t (sender .back) (restOf version (sender .back)) g x q .range) ht room r)
+        (λ _. frame-written sender version t port worstPrecedence listenerHop noGrandTime noErrorTime l known (record { seconds = lit< tt; fraction = lit< tt }) ht room r)
 
-    pub sending-typed : LawfulMac (sender .mac) → CandidateFits choice → LawfulSamples samples → LawfulPort port → Typed f
-    sending-typed mac fits w l =
+    pub sending-typed : isVersion version ≡ true → LawfulMac (sender .mac) → CandidateFits choice → LawfulPort port → Typed f
+    sending-typed known mac fits l =
         sending-framed Typed
         (λ p h n g x _ c q.
         let v = subst CandidateFits c fits in
-        let r = departure samples t (sender .back) g x q in
-        let error : x .0 < 2 ^ 32 = subst (λ (x : ErrorTime). x .0 < 2 ^ 32) (sym (r .fault)) (ends-lawful samples (r .oldest) (r .newest) w (r .kept) .newest .error) in
-        frame-typed sender t port p h g x l mac (v .0) (v .1) error)
-        (λ _. frame-typed sender t port worstPrecedence listenerHop noGrandTime noErrorTime l mac worst-fits (lit< tt) (lit< tt))
+        frame-typed sender version t port p h g x l known mac (v .0) (v .1) (departure samples t (sender .back) (restOf version (sender .back)) g x q .bits))
+        (λ _. frame-typed sender version t port worstPrecedence listenerHop noGrandTime noErrorTime l known mac worst-fits (lit< tt) (lit< tt))
 
 -- ---- the fields of a frame that was read
 
@@ -357,6 +372,7 @@ read-in-range s f b e =
         hop = row 15 (lit< tt);
         count = row 16 (lit< tt);
         error = row 23 (lit< tt);
+        version = row 9 (lit< tt);
       };
       grand = record { seconds = row 18 (lit< tt); fraction = row 19 (lit< tt) };
       local = row 20 (lit< tt);

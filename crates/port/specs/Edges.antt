@@ -23,10 +23,10 @@ pub record Row : Type 0 where
   pub got : ℤ
   pub says : ℤ
 
-abbrev row : ℤ → ℤ → Row
+abbrev pub row : ℤ → ℤ → Row
 row g s = record { got = g; says = s }
 
-abbrev minus : ℕ → ℤ
+abbrev pub minus : ℕ → ℤ
 minus n = negℤ (pos n)
 
 abbrev pub local : ℕ → LocalTime
@@ -87,5 +87,5 @@ table =
     ∷ row (pos (hopOf 253 10)) (pos 254)
     ∷ row (pos (hopOf 254 10)) (pos 255)
     -- backTime 2^33, t = r1 + 2^34
-    ∷ row (sent (sentOf line (local (2 ^ 34 + 2 ^ 34)) (2 ^ 33))) (pos (100 * second + 34359738371))
+    ∷ row (sent (sentOf line (local (2 ^ 34 + 2 ^ 34)) (2 ^ 33) 0)) (pos (100 * second + 34359738371))
     ∷ []

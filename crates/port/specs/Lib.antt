@@ -7,3 +7,4 @@ pub mod Leaves
 pub mod Literals
 pub mod Order
 pub mod Edges
+pub mod Versions

@@ -20,6 +20,7 @@ use Rattle.choice.specs.Choose.{ownCandidate, chosenHop}
 use Rattle.choice.specs.declared.Precedence.{Precedence}
 use Rattle.choice.specs.declared.Announcement.the-variants.{Announced}
 use Rattle.choice.specs.declared.Candidate.the-variants.{Nothing}
+use Rattle.frame.specs.Frame.{firstVersion}
 use Rattle.frame.specs.declared.Fields.{Fields}
 use Rattle.frame.specs.declared.Mac.{Mac}
 use Rattle.port.specs.Record.{emptyPort, emptyClock, tooOld}
@@ -78,6 +79,7 @@ frame hop count = record {
   tx = local 0;
   rx = local 0;
   error = record { 0 = 0 };
+  version = firstVersion;
 }
 
 abbrev received : Port → ℕ → ℕ → ℕ
@@ -132,7 +134,7 @@ steps =
 
 -- two samples 2^34 apart, the newer at this grand time and at the local time 2^34; a departure so long after it, by the refusal
 abbrev departs : ℕ → ℕ → ℕ
-departs newer elapsed = sentNo (sentOf (Two (sample (newer - 2 ^ 34) 0) (sample newer (2 ^ 34))) (local (2 ^ 34 + elapsed)) 0)
+departs newer elapsed = sentNo (sentOf (Two (sample (newer - 2 ^ 34) 0) (sample newer (2 ^ 34))) (local (2 ^ 34 + elapsed)) 0 0)
 
 abbrev sends : List Literal
 sends =
@@ -142,9 +144,9 @@ sends =
     -- the first frameCount is 0
     ∷ literal (emptyPort .count) 0
     -- no clock chosen; fewer than two samples
-    ∷ literal (sendingNo (sendingOf Nothing Empty (record { profile = Full; mac = address; back = 0 }) (local 0) emptyPort)) 10
-    ∷ literal (sentNo (sentOf Empty (local 0) 0)) 11
-    ∷ literal (sentNo (sentOf (One (sample 0 0)) (local 0) 0)) 11
+    ∷ literal (sendingNo (sendingOf Nothing Empty (record { profile = Full; mac = address; back = 0 }) firstVersion (local 0) emptyPort)) 10
+    ∷ literal (sentNo (sentOf Empty (local 0) 0 0)) 11
+    ∷ literal (sentNo (sentOf (One (sample 0 0)) (local 0) 0 0)) 11
     -- departure minus newer sample below 2^39, sent grand time below 2^80
     ∷ literal (departs (2 ^ 40) (2 ^ 39 - 1)) 0
     ∷ literal (departs (2 ^ 40) (2 ^ 39)) 12

@@ -2,14 +2,15 @@
 use mathlib.Core.Path.{_≡_}
 use mathlib.Core.List.{List, [], _∷_}
 use mathlib.Core.Logic.{_⊎_, _≢_}
-use Prim.Native.Nat.{ℕ, _+_, _%_, _^_, _<_, _≤_}
-use lib.IntN.{ℤ}
+use Prim.Native.Nat.{ℕ, _+_, _-_, _%_, _^_, _<_, _≤_}
+use lib.IntN.{ℤ, pos, negℤ, _+ℤ_}
+use lib.Signed.{_<ℤ_}
 use Rattle.refusals.specs.Order.{Condition, given}
 use Rattle.numbers.specs.Whole.{atLeastZero}
-use Rattle.times.specs.Times.{sinceOf}
+use Rattle.times.specs.Times.{sinceOf, errorOf}
 use Rattle.times.specs.declared.LocalTime.{LocalTime}
-use Rattle.samples.specs.Rate.{neighbourRateOf}
-use Rattle.samples.specs.Keep.{howMany, endsOf}
+use Rattle.samples.specs.Rate.{scaledOf, neighbourRateOf}
+use Rattle.samples.specs.Keep.{rateBetween, howMany, endsOf}
 use Rattle.samples.specs.declared.Samples.{Samples}
 use Rattle.samples.specs.declared.Ends.{Ends}
 use Rattle.samples.specs.declared.Ends.the-variants.{Few, Both}
@@ -70,12 +71,22 @@ abbrev pub BeyondEnd : Ends → LocalTime → ℕ → Type 0
 BeyondEnd Few t back = ⊥
 BeyondEnd (Both a b) t back = 2 ^ 80 ≤ atLeastZero (sentTime a b (sinceOf t (b .local)) back)
 
--- a departure at t: from a full bridge, by the chosen clock and its samples; from a listener there is nothing to refuse
-abbrev pub departureConditions : Profile → Candidate → Samples → LocalTime → ℕ → List Condition
-departureConditions Listener chosen samples t back = []
-departureConditions Full chosen samples t back =
+-- a whole number that 32 signed bits do not hold
+abbrev pub BeyondBits : ℤ → Type 0
+BeyondBits z = (z <ℤ negℤ (pos (2 ^ 31))) ⊎ (pos (2 ^ 31 - 1) <ℤ z)
+
+-- in version 2, errorTime would leave 32 signed bits: the newer sample's, and floor(rate × backTime / 2^35)
+abbrev pub ErrorBeyond : ℕ → Ends → ℕ → Type 0
+ErrorBeyond version Few back = ⊥
+ErrorBeyond version (Both a b) back = (version ≡ 2) × BeyondBits (errorOf (b .error) +ℤ scaledOf (rateBetween a b) (pos back))
+
+-- a departure at t: from a full bridge, by the chosen clock and its samples, in a version; from a listener there is nothing to refuse
+abbrev pub departureConditions : Profile → Candidate → Samples → ℕ → LocalTime → ℕ → List Condition
+departureConditions Listener chosen samples version t back = []
+departureConditions Full chosen samples version t back =
     given 10 (chosen ≡ Nothing)
     ∷ given 11 (howMany samples < 2)
     ∷ given 12 (TooLate (endsOf samples) t)
     ∷ given 13 (BeyondEnd (endsOf samples) t back)
+    ∷ given 13 (ErrorBeyond version (endsOf samples) back)
     ∷ []

@@ -1,6 +1,8 @@
--- Send, on one record: a full bridge's frame for the chosen clock, or why there is none; a listener's frame.
+-- Send, on one record: a full bridge's frame for the chosen clock, in a version, or why there is none; a listener's frame.
 use Prim.Native.Nat.{ℕ}
+use mathlib.Core.Bool.{cond}
 use mathlib.Core.List.{List}
+use lib.Dec.{eqb}
 use lib.ListN.{drop}
 use Rattle.refusals.specs.Refusals.{done, noClock}
 use Rattle.times.specs.declared.LocalTime.{LocalTime}
@@ -16,7 +18,7 @@ use Rattle.choice.specs.Precedence.{worstPrecedence}
 use Rattle.choice.specs.declared.Precedence.{Precedence}
 use Rattle.choice.specs.declared.Candidate.{Candidate}
 use Rattle.choice.specs.declared.Candidate.the-variants.{Nothing, Clock}
-use Rattle.frame.specs.Frame.{frameLength}
+use Rattle.frame.specs.Frame.{frameLength, secondVersion}
 use Rattle.frame.specs.Write.{bytesOf}
 use Rattle.frame.specs.declared.Fields.{Fields}
 use Rattle.port.specs.Record.{usedPort}
@@ -37,9 +39,10 @@ abbrev pub echoRx : Pair → LocalTime
 echoRx Unset = record { 0 = 0 }
 echoRx (Set local p) = p
 
--- the fields of every frame: this precedence, hopCount, grand time and errorTime; the station's address, the record's frameCount, t, and the record's echo
-abbrev pub frameOf : Sender → Precedence → ℕ → LocalTime → GrandTime → ErrorTime → Port → Fields
-frameOf sender precedence hop t grand error port = record {
+-- the fields of every frame: this version, precedence, hopCount, grand time and errorTime; the station's address, the record's frameCount, t, and the
+-- record's echo
+abbrev pub frameOf : Sender → ℕ → Precedence → ℕ → LocalTime → GrandTime → ErrorTime → Port → Fields
+frameOf sender version precedence hop t grand error port = record {
   sa = sender .mac;
   precedence = precedence;
   hop = hop;
@@ -49,19 +52,25 @@ frameOf sender precedence hop t grand error port = record {
   tx = echoTx (port .echo);
   rx = echoRx (port .echo);
   error = error;
+  version = version;
 }
 
--- 11 to 13 by the sent grand time
-abbrev pub sendingBy : Sent → Sender → Precedence → ℕ → LocalTime → Port → Sending
-sendingBy (At grand error) sender precedence hop t port = Frame (frameOf sender precedence hop t grand error port)
-sendingBy Few sender precedence hop t port = Refused (sentNo Few)
-sendingBy Late sender precedence hop t port = Refused (sentNo Late)
-sendingBy Beyond sender precedence hop t port = Refused (sentNo Beyond)
+-- what errorTime makes up for: backTime in version 2, and nothing in version 1
+abbrev pub restOf : ℕ → ℕ → ℕ
+restOf version back = cond (eqb version secondVersion) back 0
+
+-- 11 to 13 by the sent grand time and errorTime
+abbrev pub sendingBy : Sent → Sender → ℕ → Precedence → ℕ → LocalTime → Port → Sending
+sendingBy (At grand error) sender version precedence hop t port = Frame (frameOf sender version precedence hop t grand error port)
+sendingBy Few sender version precedence hop t port = Refused (sentNo Few)
+sendingBy Late sender version precedence hop t port = Refused (sentNo Late)
+sendingBy Beyond sender version precedence hop t port = Refused (sentNo Beyond)
 
 -- a full bridge: 10 where no clock is chosen; else by the samples of the chosen clock
-abbrev pub clockSending : Candidate → Samples → Sender → LocalTime → Port → Sending
-clockSending Nothing samples sender t port = Refused noClock
-clockSending (Clock precedence hop number) samples sender t port = sendingBy (sentOf samples t (sender .back)) sender precedence hop t port
+abbrev pub clockSending : Candidate → Samples → Sender → ℕ → LocalTime → Port → Sending
+clockSending Nothing samples sender version t port = Refused noClock
+clockSending (Clock precedence hop number) samples sender version t port =
+    sendingBy (sentOf samples t (sender .back) (restOf version (sender .back))) sender version precedence hop t port
 
 -- a listener's frame, whatever is chosen: the worst precedence, the hop before the last, and zero for both times
 abbrev pub listenerHop : ℕ
@@ -73,16 +82,16 @@ noGrandTime = record { 0 = 0; 1 = 0 }
 abbrev pub noErrorTime : ErrorTime
 noErrorTime = record { 0 = 0 }
 
-abbrev pub listenerFrame : Sender → LocalTime → Port → Fields
-listenerFrame sender t port = frameOf sender worstPrecedence listenerHop t noGrandTime noErrorTime port
+abbrev pub listenerFrame : Sender → ℕ → LocalTime → Port → Fields
+listenerFrame sender version t port = frameOf sender version worstPrecedence listenerHop t noGrandTime noErrorTime port
 
 -- by the profile
-abbrev pub profileSending : Profile → Candidate → Samples → Sender → LocalTime → Port → Sending
-profileSending Full choice samples sender t port = clockSending choice samples sender t port
-profileSending Listener choice samples sender t port = Frame (listenerFrame sender t port)
+abbrev pub profileSending : Profile → Candidate → Samples → Sender → ℕ → LocalTime → Port → Sending
+profileSending Full choice samples sender version t port = clockSending choice samples sender version t port
+profileSending Listener choice samples sender version t port = Frame (listenerFrame sender version t port)
 
-unfoldable pub sendingOf : Candidate → Samples → Sender → LocalTime → Port → Sending
-sendingOf choice samples sender t port = profileSending (sender .profile) choice samples sender t port
+unfoldable pub sendingOf : Candidate → Samples → Sender → ℕ → LocalTime → Port → Sending
+sendingOf choice samples sender version t port = profileSending (sender .profile) choice samples sender version t port
 
 -- the answer's number
 abbrev pub sendingNo : Sending → ℕ

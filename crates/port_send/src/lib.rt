@@ -6,10 +6,11 @@ ghost use Rattle.samples.specs.Keep.{LawfulSamples};
 ghost use Rattle.timeline.specs.Sent.{longestElapsed};
 ghost use Rattle.frame.specs.Frame.{frameLength};
 ghost use Rattle.choice.specs.Precedence.{worstPrecedence};
-ghost use Rattle.port.specs.Send.{echoTx, echoRx, frameOf, clockSending, listenerFrame, sendingOf, sendingDone, sendingBytes};
+ghost use Rattle.port.specs.Send.{echoTx, echoRx, frameOf, restOf, clockSending, listenerFrame, sendingOf, sendingDone, sendingBytes};
 use choice::Candidate;
 use choice::Precedence;
 use frame::Fields;
+use frame::version;
 use port::Port;
 use port::PortDone;
 use port::Profile;
@@ -50,6 +51,7 @@ fn echo_rx(echo: Pair) -> LocalTime
 // The fields of every frame, whatever it says of a clock.
 fn fields(
     sender: Sender,
+    version: u8,
     precedence: Precedence,
     hop: u8,
     t: LocalTime,
@@ -57,7 +59,7 @@ fn fields(
     error: ErrorTime,
     port: Port,
 ) -> Fields
-    ensures { λ r. ⌜ r ≡ frameOf sender precedence hop t grand error port ⌝ }
+    ensures { λ r. ⌜ r ≡ frameOf sender version precedence hop t grand error port ⌝ }
 {
     let echo = port.echo;
     let mac = sender.mac;
@@ -71,6 +73,18 @@ fn fields(
         tx: echo_tx(echo),
         rx: echo_rx(echo),
         error: error,
+        version: version,
+    }
+}
+
+// What errorTime makes up for: backTime in version 2, and nothing in version 1.
+fn rest(version: u8, back: u64) -> u64
+    ensures { λ r. ⌜ r ≡ restOf version back ⌝ }
+{
+    if version == version::SECOND_VERSION {
+        back
+    } else {
+        0
     }
 }
 
@@ -79,23 +93,27 @@ fn for_clock(
     choice: Candidate,
     samples: Samples,
     sender: Sender,
+    version: u8,
     t: LocalTime,
     port: Port,
 ) -> Sending
     requires { ⌜ LawfulSamples samples ⌝ }
     requires { ⌜ sender .back < longestElapsed ⌝ }
-    ensures { λ r. ⌜ r ≡ clockSending choice samples sender t port ⌝ }
+    ensures { λ r. ⌜ r ≡ clockSending choice samples sender version t port ⌝ }
 {
     match choice {
         Candidate::Nothing => Sending::Refused(refusals::NO_CLOCK),
-        Candidate::Clock(precedence, hop, _) => match departure::sent(samples, t, sender.back) {
-            Sent::At(grand, error) => {
-                Sending::Frame(fields(sender, precedence, hop, t, grand, error, port))
+        Candidate::Clock(precedence, hop, _) => {
+            let rest = rest(version, sender.back);
+            match departure::sent(samples, t, sender.back, rest) {
+                Sent::At(grand, error) => {
+                    Sending::Frame(fields(sender, version, precedence, hop, t, grand, error, port))
+                }
+                Sent::Few => Sending::Refused(refusals::FEW_SAMPLES),
+                Sent::Late => Sending::Refused(refusals::TOO_LATE),
+                Sent::Beyond => Sending::Refused(refusals::BEYOND_RANGE),
             }
-            Sent::Few => Sending::Refused(refusals::FEW_SAMPLES),
-            Sent::Late => Sending::Refused(refusals::TOO_LATE),
-            Sent::Beyond => Sending::Refused(refusals::BEYOND_RANGE),
-        },
+        }
     }
 }
 
@@ -113,12 +131,13 @@ fn worst_precedence() -> Precedence
 }
 
 // A listener's frame at t.
-fn for_neighbour(sender: Sender, t: LocalTime, port: Port) -> Fields
-    ensures { λ r. ⌜ r ≡ listenerFrame sender t port ⌝ }
+fn for_neighbour(sender: Sender, version: u8, t: LocalTime, port: Port) -> Fields
+    ensures { λ r. ⌜ r ≡ listenerFrame sender version t port ⌝ }
 {
     let precedence = worst_precedence();
     fields(
         sender,
+        version,
         precedence,
         LISTENER_HOP,
         t,
@@ -133,17 +152,18 @@ fn composed(
     choice: Candidate,
     samples: Samples,
     sender: Sender,
+    version: u8,
     t: LocalTime,
     port: Port,
 ) -> Sending
     requires { ⌜ LawfulSamples samples ⌝ }
     requires { ⌜ sender .back < longestElapsed ⌝ }
-    ensures { λ r. ⌜ r ≡ sendingOf choice samples sender t port ⌝ }
+    ensures { λ r. ⌜ r ≡ sendingOf choice samples sender version t port ⌝ }
 {
     let profile = sender.profile;
     match profile {
-        Profile::Full => for_clock(choice, samples, sender, t, port),
-        Profile::Listener => Sending::Frame(for_neighbour(sender, t, port)),
+        Profile::Full => for_clock(choice, samples, sender, version, t, port),
+        Profile::Listener => Sending::Frame(for_neighbour(sender, version, t, port)),
     }
 }
 
@@ -153,17 +173,18 @@ pub fn send(
     choice: Candidate,
     samples: Samples,
     sender: Sender,
+    version: u8,
     t: LocalTime,
     out: &mut [u8],
 ) -> PortDone
     requires { ⌜ LawfulSamples samples ⌝ }
     requires { ⌜ sender .back < longestElapsed ⌝ }
     requires { ⌜ frameLength ≤ length (now out) ⌝ }
-    ensures { λ r. ⌜ r ≡ sendingDone (sendingOf choice samples sender t port) port ⌝ }
-    ensures { λ _. ⌜ now (out .exit) ≡ sendingBytes (sendingOf choice samples sender t port) (now (out .entry)) ⌝ }
+    ensures { λ r. ⌜ r ≡ sendingDone (sendingOf choice samples sender version t port) port ⌝ }
+    ensures { λ _. ⌜ now (out .exit) ≡ sendingBytes (sendingOf choice samples sender version t port) (now (out .entry)) ⌝ }
 {
     let mut answer = refusals::DONE;
-    match composed(choice, samples, sender, t, port) {
+    match composed(choice, samples, sender, version, t, port) {
         Sending::Refused(refusal) => {
             answer = refusal;
         }

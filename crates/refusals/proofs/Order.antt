@@ -1,6 +1,6 @@
 -- Laws of the order of refusals: the first number of an ascending list is the lowest, how a list grows by a test, and how two lists follow each other.
 use mathlib.Core.Path.{_≡_, refl, sym, subst}
-use mathlib.Core.Bool.{Bool, true, false, cond, _&&_, true≢false, false≢true}
+use mathlib.Core.Bool.{Bool, true, false, cond, _&&_, _||_, true≢false, false≢true}
 use mathlib.Core.List.{List, [], _∷_, _++_}
 use mathlib.Core.Logic.{_⊎_, _≢_, inl, inr, ⊎-elim}
 use Prim.Native.Nat.{ℕ, _<_, _≤_}
@@ -93,6 +93,13 @@ either-fails {s} {t} {P} {Q} d e = by s t refl refl where
   by true true p q = record { is = λ z. absurd (true≢false z); not = λ _. ⊎-elim (d .not p) (e .not q) }
   by true false p q = record { is = λ _. inr (e .is q); not = λ z. absurd (false≢true z) }
   by false y p q = record { is = λ _. inl (d .is p); not = λ z. absurd (false≢true z) }
+
+pub both-fail : {s t : Bool} {P Q : Type 0} → Fails s P → Fails t Q → Fails (s || t) (P × Q)
+both-fail {s} {t} {P} {Q} d e = by s t refl refl where
+  by : (x y : Bool) → s ≡ x → t ≡ y → Fails (x || y) (P × Q)
+  by true y p q = record { is = λ z. absurd (true≢false z); not = λ _ h. d .not p (h .0) }
+  by false true p q = record { is = λ z. absurd (true≢false z); not = λ _ h. e .not q (h .1) }
+  by false false p q = record { is = λ _. (d .is p, e .is q); not = λ z. absurd (false≢true z) }
 
 -- a condition said in another way
 pub fails-same : {t : Bool} {P Q : Type 0} → (P → Q) → (Q → P) → Fails t P → Fails t Q

@@ -2,7 +2,7 @@
 use mathlib.Core.Path.{_≡_, refl, sym, ap, _∙_}
 use mathlib.Core.Bool.{Bool, true, false, cond, true≢false}
 use mathlib.Core.List.{List}
-use mathlib.Core.Logic.{_⊎_, inl, inr}
+use mathlib.Core.Logic.{inl, inr}
 use Prim.Native.Nat.{ℕ, zero, suc, _+_, _*_, _^_, _<_}
 use native.Mathlib.Omega.{arith}
 use borrow.Author.Tests.{lt-leb, ne-eqb}
@@ -26,9 +26,9 @@ use Rattle.answer.specs.Answer.{Answer, says, refusedLine, doneSays}
 use Rattle.forms.specs.Form.{noForm}
 use Rattle.forms.specs.Value.{byteIn}
 use Rattle.forms.specs.declared.Form.{Form}
-use Rattle.replay_grammar.specs.Row.{letterS, letterP, letterL, letterO, letterR, letterA, letterC, letterT, letterK}
+use Rattle.replay_grammar.specs.Row.{letterS, letterP, letterV, letterL, letterO, letterR, letterA, letterC, letterT, letterK}
 use Rattle.replay_grammar.specs.Line.{asksBy, longestLine, mayBeLine, letterOf, formIn, formFor, asks}
-use Rattle.replay_grammar.proofs.LineLaws.{form-some, asks-letter}
+use Rattle.replay_grammar.proofs.LineLaws.{SetupLetter, form-some, asks-letter}
 use Rattle.replay_setup.specs.Argument.{setupIn}
 use Rattle.replay_calls.specs.Answer.{chosenText, IsNumber, askedText, callOf, answerOf}
 
@@ -72,10 +72,11 @@ ranked-first b f lawful e = ap chosenText (ap (rankedOf b) e ∙ chosen-head b l
 
 -- ---- a letter of Setup
 
-pub call-setup : (letter : ℕ) (b : Bridge) (f : Form) → (letter ≡ letterS) ⊎ (letter ≡ letterP) → doneSays (setupOf (setupIn letter f)) ≡ callOf letter b f
+pub call-setup : (letter : ℕ) (b : Bridge) (f : Form) → SetupLetter letter → doneSays (setupOf (setupIn letter f)) ≡ callOf letter b f
 unfolding callOf
 call-setup letter b f (inl s) = rw s refl
-call-setup letter b f (inr p) = rw p refl
+call-setup letter b f (inr (inl p)) = rw p refl
+call-setup letter b f (inr (inr v)) = rw v refl
 
 -- ---- a letter that asks
 
@@ -88,7 +89,7 @@ asks-other false rest x y f e = f e
 pub call-asks : (letter : ℕ) (b : Bridge) (f : Form) → asksBy letter ≡ true → callOf letter b f ≡ says b (askedText letter b f)
 unfolding callOf asksBy
 call-asks letter b f =
-    asks-other (eqb letter letterS) _ _ _ (asks-other (eqb letter letterP) _ _ _ (asks-other (eqb letter letterL) _ _ _ (asks-other (eqb letter letterO) _ _ _ (asks-other (eqb letter letterR) _ _ _ (asks-other (eqb letter letterA) _ _ _ (asks-other (eqb letter letterT) _ _ _ (λ e. refl)))))))
+    asks-other (eqb letter letterS) _ _ _ (asks-other (eqb letter letterP) _ _ _ (asks-other (eqb letter letterV) _ _ _ (asks-other (eqb letter letterL) _ _ _ (asks-other (eqb letter letterO) _ _ _ (asks-other (eqb letter letterR) _ _ _ (asks-other (eqb letter letterA) _ _ _ (asks-other (eqb letter letterT) _ _ _ (λ e. refl))))))))
 
 -- what a form is answered with: where it is good, the letter's call
 abbrev answerWith : Bridge → List ℕ → Form → Answer

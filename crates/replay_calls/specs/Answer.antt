@@ -33,7 +33,7 @@ use Rattle.forms.specs.Form.{numberIn}
 use Rattle.forms.specs.Value.{byteIn, sizeIn}
 use Rattle.forms.specs.declared.Form.{Form}
 use Rattle.answer.specs.Answer.{Answer, says, refusedLine, doneSays}
-use Rattle.replay_grammar.specs.Row.{letterS, letterP, letterL, letterO, letterR, letterA, letterC, letterT, letterD, letterE, letterK}
+use Rattle.replay_grammar.specs.Row.{letterS, letterP, letterV, letterL, letterO, letterR, letterA, letterC, letterT, letterD, letterE, letterK}
 use Rattle.replay_grammar.specs.Line.{mayBeLine, letterOf, formIn}
 use Rattle.replay_frames.specs.Frames.{untouched, plainText}
 use Rattle.replay_setup.specs.Argument.{setupIn}
@@ -85,17 +85,18 @@ askedText letter b f =
     (cond (eqb letter letterK) (chosenText (rankedOf b (byteIn f 0)))
     (plainText letter f))))
 
--- S, P, L, O, R, A, T, and those
+-- S, P, V, L, O, R, A, T, and those
 unfoldable pub callOf : ℕ → Bridge → Form → Answer
 callOf letter b f =
     cond (eqb letter letterS) (doneSays (setupOf (setupIn letter f)))
     (cond (eqb letter letterP) (doneSays (setupOf (setupIn letter f)))
+    (cond (eqb letter letterV) (doneSays (setupOf (setupIn letter f)))
     (cond (eqb letter letterL) (linkedSays (linksOf b (byteIn f 0)))
     (cond (eqb letter letterO) (doneSays (ownClockOf b (byteIn f 0) (numberIn f 1) (numberIn f 2) (numberIn f 3)))
     (cond (eqb letter letterR) (doneSays (receiveOf b (byteIn f 0) (take (sizeIn f 2) (f .bytes)) (numberIn f 1)))
     (cond (eqb letter letterA) (doneSays (ageOf b (numberIn f 0)))
     (cond (eqb letter letterT) (sendSays b (byteIn f 0) (numberIn f 1) (untouched (sizeIn f 2)))
-    (says b (askedText letter b f))))))))
+    (says b (askedText letter b f)))))))))
 
 -- a line is answered by its letter's call, where its fields are those that the letter wants
 unfoldable pub answerOf : Bridge → List ℕ → Answer

@@ -22,7 +22,7 @@ use bridge::LinkCount;
 use forms::Form;
 use forms::value;
 
-// `S n mac prec capable timeout back d1 .. d8`, or `P` with the same fields.
+// `S n mac prec capable timeout back d1 .. d8`, `P` with the same fields, or `V listener n mac prec capable timeout back d1 .. d8 versions`.
 pub fn setup(letter: u8, form: Form, out: &mut [u8]) -> Answered
     requires { ⌜ longestAnswer ≤ length (now out) ⌝ }
     ensures { λ r. ⌜ Says (doneSays (setupOf (setupIn letter form))) r (now (out .entry)) (now (out .exit)) ⌝ }

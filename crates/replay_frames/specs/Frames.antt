@@ -27,7 +27,7 @@ use Rattle.forms.specs.declared.Form.{Form}
 use Rattle.replay_grammar.specs.Row.{letterF, letterW, letterB, letterH}
 use Rattle.replay_times.specs.Times.{timesText}
 
--- ---- arguments: S and W have an address and a precedence first among their bytes, W then an errorTime
+-- ---- arguments: S, P, V and W have an address and a precedence first among their bytes, W then an errorTime
 
 abbrev pub macFrom : List ℕ → Mac
 macFrom s = record { 0 = getD s 0 0; 1 = getD s 1 0; 2 = getD s 2 0; 3 = getD s 3 0; 4 = getD s 4 0; 5 = getD s 5 0 }
@@ -56,6 +56,7 @@ fieldsIn f = record {
   tx = record { 0 = numberIn f 7 };
   rx = record { 0 = numberIn f 8 };
   error = errorIn (f .bytes);
+  version = byteIn f 10;
 }
 
 -- an output before a call: n of 128 bytes A5
@@ -69,7 +70,7 @@ untouched n = take n (replicate mostLength untouchedByte)
 
 -- how many bytes each column of a frame's fields has; 0 is a character
 abbrev pub fieldWidths : List ℕ
-fieldWidths = 1 ∷ 0 ∷ 1 ∷ 1 ∷ 1 ∷ 1 ∷ 1 ∷ 1 ∷ 0 ∷ 1 ∷ 1 ∷ 2 ∷ 1 ∷ 8 ∷ 0 ∷ 1 ∷ 0 ∷ 1 ∷ 0 ∷ 5 ∷ 5 ∷ 0 ∷ 6 ∷ 0 ∷ 6 ∷ 0 ∷ 6 ∷ 0 ∷ 4 ∷ 0 ∷ []
+fieldWidths = 1 ∷ 0 ∷ 1 ∷ 1 ∷ 1 ∷ 1 ∷ 1 ∷ 1 ∷ 0 ∷ 1 ∷ 1 ∷ 2 ∷ 1 ∷ 8 ∷ 0 ∷ 1 ∷ 0 ∷ 1 ∷ 0 ∷ 5 ∷ 5 ∷ 0 ∷ 6 ∷ 0 ∷ 6 ∷ 0 ∷ 6 ∷ 0 ∷ 4 ∷ 0 ∷ 1 ∷ 0 ∷ []
 
 abbrev pub fieldValues : Fields → List ℕ
 fieldValues f =
@@ -79,7 +80,7 @@ fieldValues f =
     ∷ m .0 ∷ m .1 ∷ m .2 ∷ m .3 ∷ m .4 ∷ m .5 ∷ space
     ∷ p .priority1 ∷ p .source ∷ p .variance ∷ p .priority2 ∷ p .clock ∷ space
     ∷ f .hop ∷ space ∷ f .count ∷ space ∷ f .grand .0 ∷ f .grand .1 ∷ space
-    ∷ f .local .0 ∷ space ∷ f .tx .0 ∷ space ∷ f .rx .0 ∷ space ∷ f .error .0 ∷ newline ∷ []
+    ∷ f .local .0 ∷ space ∷ f .tx .0 ∷ space ∷ f .rx .0 ∷ space ∷ f .error .0 ∷ space ∷ f .version ∷ newline ∷ []
 
 abbrev pub readText : Reading → List ℕ
 readText (Refused k) = line1 k
@@ -105,7 +106,7 @@ passesText hop = line1 (passesOf hop)
 unfoldable pub plainText : ℕ → Form → List ℕ
 plainText letter f =
     cond (eqb letter letterF) (readText (readOf (take (sizeIn f 0) (f .bytes))))
-    (cond (eqb letter letterW) (writeText (fieldsIn f) (untouched (sizeIn f 10)))
+    (cond (eqb letter letterW) (writeText (fieldsIn f) (untouched (sizeIn f 11)))
     (cond (eqb letter letterB) (betterText (take (sizeIn f 0) (f .bytes)) (take (sizeIn f 1) (drop (sizeIn f 0) (f .bytes))))
     (cond (eqb letter letterH) (passesText (byteIn f 0))
     (timesText letter f))))

@@ -86,11 +86,12 @@ fn frame_fields(form: Form) -> Fields
         tx: LocalTime(form.numbers[7]),
         rx: LocalTime(form.numbers[8]),
         error: error(bytes),
+        version: value::byte(form, 10),
     }
 }
 
 // How many bytes each column of a frame's fields has.
-const WIDTHS: [usize; 30] = [
+const WIDTHS: [usize; 32] = [
     BYTE,
     CHARACTER,
     BYTE,
@@ -121,10 +122,12 @@ const WIDTHS: [usize; 30] = [
     CHARACTER,
     4,
     CHARACTER,
+    BYTE,
+    CHARACTER,
 ];
 
 // What each column of a frame's fields says.
-fn values(f: Fields) -> [u64; 30]
+fn values(f: Fields) -> [u64; 32]
     ensures { λ r. ⌜ r ≡ fieldValues f ⌝ }
 {
     [
@@ -157,6 +160,8 @@ fn values(f: Fields) -> [u64; 30]
         f.rx.0,
         SPACE,
         f.error.0 as u64,
+        SPACE,
+        f.version as u64,
         NEWLINE,
     ]
 }
@@ -193,13 +198,13 @@ fn written(f: Fields, frame: &mut [u8], out: &mut [u8]) -> usize
     columns::with_bytes(out, answer, frame)
 }
 
-// `W sa prec hop count sec frac local tx rx error length`.
+// `W sa prec hop count sec frac local tx rx error version length`.
 fn write(form: Form, out: &mut [u8]) -> usize
     requires { ⌜ longestAnswer ≤ length (now out) ⌝ }
-    ensures { λ r. ⌜ Prints (writeText (fieldsIn form) (untouched (sizeIn form 10))) r (now (out .entry)) (now (out .exit)) ⌝ }
+    ensures { λ r. ⌜ Prints (writeText (fieldsIn form) (untouched (sizeIn form 11))) r (now (out .entry)) (now (out .exit)) ⌝ }
 {
     let f = frame_fields(form);
-    let n = value::size(form, 10);
+    let n = value::size(form, 11);
     let mut frame = [UNTOUCHED; 128];
     written(f, &mut frame[..n], out)
 }

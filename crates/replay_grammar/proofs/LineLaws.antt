@@ -12,21 +12,27 @@ use Rattle.numbers.proofs.Branches.{if-false, if-when}
 use Rattle.forms.specs.Form.{bufferBytes, noForm}
 use Rattle.forms.proofs.FormTheorem.{form-bytes}
 use Rattle.forms.specs.declared.Form.{Form}
-use Rattle.replay_grammar.specs.Row.{letterS, letterP, letterL, letterO, letterR, letterA, letterT}
+use Rattle.replay_grammar.specs.Row.{letterS, letterP, letterV, letterL, letterO, letterR, letterA, letterT}
 use Rattle.replay_grammar.specs.Line.{mayBeLine, letterOf, formIn, formFor, asksBy, asks}
+
+-- a letter of Setup: S, P or V
+abbrev pub SetupLetter : ℕ → Type 0
+SetupLetter letter = (letter ≡ letterS) ⊎ ((letter ≡ letterP) ⊎ (letter ≡ letterV))
 
 -- of the letters that do not ask, those that are none of the others are Setup's
 pub setup-letter : (letter : ℕ) → (letter ≡ letterL → ⊥) → (letter ≡ letterO → ⊥) → (letter ≡ letterR → ⊥) → (letter ≡ letterA → ⊥) → (letter ≡ letterT → ⊥)
-    → asksBy letter ≡ false → (letter ≡ letterS) ⊎ (letter ≡ letterP)
+    → asksBy letter ≡ false → SetupLetter letter
 unfolding asksBy
 setup-letter letter l o r a t e =
-    by (eqb letter letterS) refl (eqb letter letterP) refl
+    by (eqb letter letterS) refl (eqb letter letterP) refl (eqb letter letterV) refl
     (rw (ne-eqb letter letterL l, ne-eqb letter letterO o, ne-eqb letter letterR r, ne-eqb letter letterA a, ne-eqb letter letterT t) at e)
   where
-    by : (s : Bool) → eqb letter letterS ≡ s → (p : Bool) → eqb letter letterP ≡ p → cond s false (cond p false true) ≡ false → (letter ≡ letterS) ⊎ (letter ≡ letterP)
-    by true k p q n = inl (eqb-true letter letterS k)
-    by false k true q n = inr (eqb-true letter letterP q)
-    by false k false q n = absurd (true≢false n)
+    by : (s : Bool) → eqb letter letterS ≡ s → (p : Bool) → eqb letter letterP ≡ p → (v : Bool) → eqb letter letterV ≡ v
+        → cond s false (cond p false (cond v false true)) ≡ false → SetupLetter letter
+    by true k p q v w n = inl (eqb-true letter letterS k)
+    by false k true q v w n = inr (inl (eqb-true letter letterP q))
+    by false k false q true w n = inr (inr (eqb-true letter letterV w))
+    by false k false q false w n = absurd (true≢false n)
 
 -- ---- a line that has a letter and its form
 

@@ -1,7 +1,7 @@
 -- The letter of each call, and the kinds of the fields that follow it.
 use Prim.Native.Nat.{ℕ, _+_}
 use mathlib.Core.Bool.{cond}
-use mathlib.Core.List.{List, [], _∷_}
+use mathlib.Core.List.{List, [], _∷_, _++_}
 use lib.ListN.{replicate}
 use lib.Dec.{eqb}
 use Rattle.forms.specs.Kind.{BYTE, NUMBER, NUMBER-OR-DEFAULT, DELAY-OR-MEASURED, FLAG, LENGTH, BYTES, EXACTLY}
@@ -13,6 +13,9 @@ letterS = 83
 
 abbrev pub letterP : ℕ
 letterP = 80
+
+abbrev pub letterV : ℕ
+letterV = 86
 
 abbrev pub letterL : ℕ
 letterL = 76
@@ -68,7 +71,7 @@ letterU = 85
 abbrev pub letterN : ℕ
 letterN = 78
 
--- just the bytes of an address, of a precedence, of an errorTime, of leap seconds
+-- just the bytes of an address, of a precedence, of an errorTime, of leap seconds, of a version for each port
 abbrev pub ADDRESS : ℕ
 ADDRESS = EXACTLY + 6
 
@@ -81,13 +84,16 @@ ERROR = EXACTLY + 4
 abbrev pub LEAP : ℕ
 LEAP = EXACTLY + 2
 
+abbrev pub VERSIONS : ℕ
+VERSIONS = EXACTLY + 8
+
 -- ---- rows
 
 -- of a plain line, one whose call needs no bridge: F, W, B, H, X, I, G, U, N; nothing follows C, nor a letter that no call has
 unfoldable pub plainRow : ℕ → List ℕ
 plainRow letter =
     cond (eqb letter letterF) (row (BYTES ∷ []))
-    (cond (eqb letter letterW) (row (ADDRESS ∷ PRECEDENCE ∷ BYTE ∷ BYTE ∷ NUMBER ∷ NUMBER ∷ NUMBER ∷ NUMBER ∷ NUMBER ∷ ERROR ∷ LENGTH ∷ []))
+    (cond (eqb letter letterW) (row (ADDRESS ∷ PRECEDENCE ∷ BYTE ∷ BYTE ∷ NUMBER ∷ NUMBER ∷ NUMBER ∷ NUMBER ∷ NUMBER ∷ ERROR ∷ BYTE ∷ LENGTH ∷ []))
     (cond (eqb letter letterB) (row (BYTES ∷ BYTES ∷ []))
     (cond (eqb letter letterH) (row (BYTE ∷ []))
     (cond (eqb letter letterX) (row (NUMBER ∷ NUMBER ∷ []))
@@ -97,15 +103,24 @@ plainRow letter =
     (cond (eqb letter letterN) (row (NUMBER ∷ LEAP ∷ []))
     (row [])))))))))
 
--- of Setup, whatever the profile
+-- what every line of Setup says
+abbrev pub setupKinds : List ℕ
+setupKinds = BYTE ∷ ADDRESS ∷ PRECEDENCE ∷ FLAG ∷ NUMBER-OR-DEFAULT ∷ NUMBER-OR-DEFAULT ∷ replicate 8 DELAY-OR-MEASURED
+
+-- of S and P, which say no more
 abbrev pub setupRow : List ℕ
-setupRow = row (BYTE ∷ ADDRESS ∷ PRECEDENCE ∷ FLAG ∷ NUMBER-OR-DEFAULT ∷ NUMBER-OR-DEFAULT ∷ replicate 8 DELAY-OR-MEASURED)
+setupRow = row setupKinds
+
+-- of V, which says before it whether it is a listener's, and after it the versions
+abbrev pub wholeSetupRow : List ℕ
+wholeSetupRow = row (FLAG ∷ (setupKinds ++ (VERSIONS ∷ [])))
 
 -- the row of each letter
 unfoldable pub rowOf : ℕ → List ℕ
 rowOf letter =
     cond (eqb letter letterS) setupRow
     (cond (eqb letter letterP) setupRow
+    (cond (eqb letter letterV) wholeSetupRow
     (cond (eqb letter letterL) (row (BYTE ∷ []))
     (cond (eqb letter letterO) (row (BYTE ∷ NUMBER ∷ NUMBER ∷ NUMBER ∷ []))
     (cond (eqb letter letterR) (row (BYTE ∷ NUMBER ∷ BYTES ∷ []))
@@ -114,4 +129,4 @@ rowOf letter =
     (cond (eqb letter letterD) (row (BYTE ∷ []))
     (cond (eqb letter letterE) (row (NUMBER ∷ []))
     (cond (eqb letter letterK) (row (BYTE ∷ []))
-    (plainRow letter))))))))))
+    (plainRow letter)))))))))))

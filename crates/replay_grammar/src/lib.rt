@@ -38,6 +38,7 @@ pub fn asks(text: &[u8]) -> bool
     match text[0] {
         b'S' => false,
         b'P' => false,
+        b'V' => false,
         b'L' => false,
         b'O' => false,
         b'R' => false,

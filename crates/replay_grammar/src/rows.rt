@@ -1,6 +1,6 @@
 // The kinds of the fields that follow each letter.
 ghost use mathlib.Core.Path.{_≡_};
-ghost use Rattle.replay_grammar.specs.Row.{plainRow, setupRow, rowOf};
+ghost use Rattle.replay_grammar.specs.Row.{plainRow, setupRow, wholeSetupRow, rowOf};
 use forms::kind;
 use forms::kind::BYTE;
 use forms::kind::BYTES;
@@ -10,7 +10,7 @@ use forms::kind::FLAG;
 use forms::kind::LENGTH;
 use forms::kind::NUMBER;
 
-// Just the bytes of an address, of a precedence, of an errorTime, of leap seconds.
+// Just the bytes of an address, of a precedence, of an errorTime, of leap seconds, of a version for each port.
 const ADDRESS: u8 = EXACTLY + 6;
 
 const PRECEDENCE: u8 = EXACTLY + 13;
@@ -18,6 +18,8 @@ const PRECEDENCE: u8 = EXACTLY + 13;
 const ERROR: u8 = EXACTLY + 4;
 
 const LEAP: u8 = EXACTLY + 2;
+
+const VERSIONS: u8 = EXACTLY + 8;
 
 // A number or the default, a delay or that it is measured.
 const OR_DEFAULT: u8 = kind::NUMBER_OR_DEFAULT;
@@ -41,8 +43,8 @@ fn plain_row(letter: u8) -> [u8; 17]
             NUMBER,
             NUMBER,
             ERROR,
+            BYTE,
             LENGTH,
-            END,
             END,
             END,
             END,
@@ -60,7 +62,7 @@ fn plain_row(letter: u8) -> [u8; 17]
     }
 }
 
-// The row of Setup, whatever the profile.
+// The row of S and P.
 fn setup_row() -> [u8; 17]
     ensures { λ r. ⌜ r ≡ setupRow ⌝ }
 {
@@ -85,6 +87,31 @@ fn setup_row() -> [u8; 17]
     ]
 }
 
+// The row of V, which says every part of a setup: also whether it is a listener's, and the versions.
+fn whole_setup_row() -> [u8; 17]
+    ensures { λ r. ⌜ r ≡ wholeSetupRow ⌝ }
+{
+    [
+        FLAG,
+        BYTE,
+        ADDRESS,
+        PRECEDENCE,
+        FLAG,
+        OR_DEFAULT,
+        OR_DEFAULT,
+        DELAY,
+        DELAY,
+        DELAY,
+        DELAY,
+        DELAY,
+        DELAY,
+        DELAY,
+        DELAY,
+        VERSIONS,
+        END,
+    ]
+}
+
 // The row of a letter: those of calls on a bridge, and then those of plain lines.
 pub fn row(letter: u8) -> [u8; 17]
     ensures { λ r. ⌜ r ≡ rowOf letter ⌝ }
@@ -92,6 +119,7 @@ pub fn row(letter: u8) -> [u8; 17]
     match letter {
         b'S' => setup_row(),
         b'P' => setup_row(),
+        b'V' => whole_setup_row(),
         b'L' => kind::row(BYTE, END, END, END),
         b'O' => kind::row(BYTE, NUMBER, NUMBER, NUMBER),
         b'R' => kind::row(BYTE, NUMBER, BYTES, END),

@@ -53,7 +53,7 @@ pub fn asked_line(b: Bridge, text: &[u8], out: &mut [u8]) -> usize
     asked(b, text[0], form, out)
 }
 
-// A letter whose call changes the state, with what its fields say; of these letters Setup's, S and P, are left to the last arm.
+// A letter whose call changes the state, with what its fields say; of these letters Setup's, S, P and V, are left to the last arm.
 fn call(b: Bridge, letter: u8, form: Form, out: &mut [u8]) -> Answered
     requires { ⌜ Lawful b ⌝ }
     requires { ⌜ asksBy letter ≡ false ⌝ }

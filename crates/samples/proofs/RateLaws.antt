@@ -1,13 +1,13 @@
 -- Laws of the limits, the gain and the rate, by which every proof above them goes.
-use mathlib.Core.Path.{_≡_, refl, sym, _∙_}
+use mathlib.Core.Path.{_≡_, refl, sym, ap, _∙_}
 use mathlib.Core.Bool.{Bool, true, false, cond}
 use Prim.Native.Nat.{ℕ, _+_, _*_, _^_, _<_, _≤_}
 use native.Mathlib.Nat.{mul-le-mul-right}
 use native.Mathlib.Omega.{arith}
 use borrow.Author.Tests.{le-leb, leb-true}
 use lib.Dec.{leb}
-use lib.IntN.{ℤ, pos, natAbs, _-ℤ_, _*ℤ_}
-use Rattle.numbers.specs.Whole.{Nearest}
+use lib.IntN.{ℤ, pos, natAbs, _-ℤ_, _*ℤ_, *ℤ-zero}
+use Rattle.numbers.specs.Whole.{floorDiv, Nearest}
 use Rattle.times.specs.declared.LocalTime.{LocalTime}
 use Rattle.samples.specs.Rate.{shortestSpread, longestSpread, perGain, parts, Limits, limitsHold, gainOf, rateOf, scaledOf, advanceOf, rateWithin, steepest, neighbourRateOf}
 use Rattle.samples.specs.declared.Pair.{Pair}
@@ -70,6 +70,11 @@ rate-one d s h = nearest-one (d *ℤ pos parts) s h
 pub scaled-near : (r u : ℤ) → natAbs (pos parts *ℤ scaledOf r u -ℤ r *ℤ u) < parts
 unfolding scaledOf
 scaled-near r u = floor-near (r *ℤ u) parts (omega arith)
+
+-- and of no stretch nothing
+pub scaled-none : (r : ℤ) → scaledOf r (pos 0) ≡ pos 0
+unfolding scaledOf
+scaled-none r = ap (λ (z : ℤ). floorDiv z parts) (*ℤ-zero r)
 
 -- ---- sizes
 

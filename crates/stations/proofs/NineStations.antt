@@ -7,11 +7,11 @@ use lib.Dec.{lit<}
 use lib.ListN.{take}
 use Rattle.numbers.specs.Bytes.{Bytes}
 use Rattle.numbers.specs.Table.{parted, joined}
-use Rattle.times.specs.Times.{sinceOf, momentOf}
+use Rattle.times.specs.Times.{sinceOf, momentOf, errorTimeOf}
 use Rattle.samples.specs.Rate.{gainOf, neighbourRateOf, rateOf, scaledOf}
 use Rattle.samples.specs.Keep.{keptOf, endsOf}
 use Rattle.delay.specs.Delay.{measuredOf, linkDelayOf}
-use Rattle.timeline.specs.Sent.{sentOf, sentTime}
+use Rattle.timeline.specs.Sent.{sentOf, sentTime, sentError}
 use Rattle.timeline.specs.Line.{readingAt}
 use Rattle.choice.specs.Precedence.{precedenceOf, keyOf}
 use Rattle.choice.specs.Hop.{jumpOf, hopStep, hopOf}
@@ -23,7 +23,7 @@ use Rattle.port.specs.Record.{agedPort}
 use Rattle.port.specs.Receive.{sameClock, followedBy, receivedOf}
 use Rattle.port.specs.Send.{sendingOf}
 use Rattle.bridge.specs.Arguments.{portRefusal, sendRefusal, maskBeyond}
-use Rattle.bridge.specs.Fits.{delayFits, delaysFit, rangesFit, profileFits, setupFits, plainSetup}
+use Rattle.bridge.specs.Fits.{delayFits, all, rangesFit, profileFits, setupFits, plainSetup}
 use Rattle.bridge.specs.Setup.{defaultTimeout, setupOf}
 use Rattle.bridge.specs.Links.{linksOf}
 use Rattle.bridge.specs.Table.{each, relinkedPort, candidatesFrom, samplesAt, samplesOfChoice}
@@ -74,9 +74,9 @@ Passed before hop to = outcome before hop ≡ (0, 1, 0, passing to)
 pub passed : (Passed 0 2 128 × Passed 0 128 191 × Passed 0 191 223 × Passed 0 223 239 × Passed 0 239 247 × Passed 0 247 251 × Passed 0 251 253 × Passed 0 253 254 × Passed 0 254 255)
     × (Passed 254 245 246 × Passed 254 246 247 × Passed 254 247 248 × Passed 254 248 249 × Passed 254 249 250 × Passed 254 250 251 × Passed 254 251 252 × Passed 254 252 253 × Passed 254 253 254 × Passed 254 254 255)
     × (chosenHop (chosenOf (station 0)) ≡ 1)
-unfolding delayFits delaysFit rangesFit profileFits setupFits setupOf linksOf maskBeyond each relinkedPort portRefusal sendRefusal sendingAt sendOf sendBytes sendingOf bytesOf joined
+unfolding delayFits all rangesFit profileFits setupFits setupOf linksOf maskBeyond each relinkedPort portRefusal sendRefusal sendingAt sendOf sendBytes sendingOf bytesOf joined
     receiveOf receiveFieldsOf readOf readRefusal parted chosenOf receivedOf followedBy linkDelayOf measuredOf neighbourRateOf sinceOf hopOf hopStep jumpOf keptOf sameClock precedenceOf chosenHop bestOf betterOf candidateOf ownCandidate candidatesFrom
-    rankOf keyOf sentOf sentTime readingAt momentOf endsOf samplesOfChoice samplesAt gainOf rateOf scaledOf ageOf agedPort
+    rankOf keyOf sentOf sentTime sentError readingAt momentOf errorTimeOf endsOf samplesOfChoice samplesAt gainOf rateOf scaledOf ageOf agedPort
 passed = ((refl, refl, refl, refl, refl, refl, refl, refl, refl), (refl, refl, refl, refl, refl, refl, refl, refl, refl, refl), refl)
 
 -- ---- the rows

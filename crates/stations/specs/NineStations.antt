@@ -2,7 +2,7 @@
 use mathlib.Core.List.{List, []}
 use Prim.Native.Nat.{ℕ, _^_}
 use lib.ListN.{replicate}
-use Rattle.frame.specs.Frame.{frameLength}
+use Rattle.frame.specs.Frame.{frameLength, firstVersion}
 use Rattle.frame.specs.Write.{bytesOf}
 use Rattle.frame.specs.declared.Fields.{Fields}
 use Rattle.bridge.specs.Fits.{noMac, noPrecedence, plainSetup}
@@ -27,6 +27,7 @@ fieldsWith hop count fraction local = record {
   tx = record { 0 = 0 };
   rx = record { 0 = 0 };
   error = record { 0 = 0 };
+  version = firstVersion;
 }
 
 -- the frame that goes from station to station, at a hop: nothing else in it changes

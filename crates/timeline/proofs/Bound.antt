@@ -1,4 +1,5 @@
--- Demand 3's bound, once for every reading: it lies less than `bound` units from the exact line, and no smaller number would do. The line passes through both samples.
+-- How far roundings lead from the exact line, once for every reading and for both versions: less than 8 units by the rate's, less than one more by each
+-- floor. So a reading lies less than `bound` units from the line, and no smaller number would do. The line passes through both samples.
 use mathlib.Core.Path.{_≡_, sym, ap, _∙_}
 use Prim.Native.Nat.{ℕ, _+_, _-_, _*_, _^_, _<_, _≤_}
 use native.Mathlib.Nat.{mul-le-mul-left, mul-le-mul-right}
@@ -13,17 +14,17 @@ use Rattle.timeline.specs.Line.{longestReach, InReach, readingAt, bound,
 use Rattle.numbers.proofs.Ring.{same, split, of-pos, neg-pos, sub-+, sub-*, sub-neg-is, natAbs-*, natAbs-+}
 use Rattle.samples.proofs.RateLaws.{rate-near, scaled-near, scaled-small}
 
--- ---- both roundings together: S times what a rate makes of x differs from d × x by less than `bound` times S
+-- ---- the rate's rounding and k floors together: S times q differs from d × x by less than 8 + k times S, where q differs from rate × x / 2^35 by less than k
 
 -- times 2^35, the difference is what each rounding adds to it
 error-parts : (p s : ℕ) (q d u r : ℤ) → pos p *ℤ (pos s *ℤ q -ℤ d *ℤ u) ≡ pos s *ℤ (pos p *ℤ q -ℤ r *ℤ u) +ℤ u *ℤ (pos s *ℤ r -ℤ d *ℤ pos p)
 error-parts p s q d u r =
     rw (of-pos p, of-pos s, split q, split d, split u, split r) (simp (sub-+, sub-*, sub-neg-is) (omega (arith, same)))
 
-correction-near : (s : ℕ) (d x : ℤ) → 0 < s → natAbs x ≤ longestReach → natAbs (pos s *ℤ scaledOf (rateOf d s) x -ℤ d *ℤ x) < bound * s
-correction-near s d x hs hx =
+pub correction-near : (k s : ℕ) (d x q : ℤ) → 0 < s → natAbs x ≤ longestReach → natAbs (pos parts *ℤ q -ℤ rateOf d s *ℤ x) < k * parts
+    → natAbs (pos s *ℤ q -ℤ d *ℤ x) < (8 + k) * s
+correction-near k s d x q hs hx hq =
     let r = rateOf d s in
-    let q = scaledOf r x in
     let scaling = pos parts *ℤ q -ℤ r *ℤ x in
     let rating = pos s *ℤ r -ℤ d *ℤ pos parts in
     omega (
@@ -33,7 +34,7 @@ correction-near s d x hs hx =
       natAbs-+ (pos s *ℤ scaling) (x *ℤ rating),
       natAbs-* (pos s) scaling,
       natAbs-* x rating,
-      mul-le-mul-left s (scaled-near r x),
+      mul-le-mul-left s hq,
       mul-le-mul-right (natAbs rating) hx,
       rate-near d s hs .near,
     )
@@ -41,7 +42,7 @@ correction-near s d x hs hx =
 -- ---- a reading
 
 -- what is left of a reading less the line: the correction less d × x
-line-error : (s : ℕ) (g x q rise : ℤ) → pos s *ℤ (g +ℤ (x +ℤ q)) -ℤ (pos s *ℤ g +ℤ rise *ℤ x) ≡ pos s *ℤ q -ℤ (rise -ℤ pos s) *ℤ x
+pub line-error : (s : ℕ) (g x q rise : ℤ) → pos s *ℤ (g +ℤ (x +ℤ q)) -ℤ (pos s *ℤ g +ℤ rise *ℤ x) ≡ pos s *ℤ q -ℤ (rise -ℤ pos s) *ℤ x
 line-error s g x q rise =
     rw (of-pos s, split g, split x, split q, split rise) (simp (sub-+, sub-*, sub-neg-is, neg-pos) (omega (arith, same)))
 
@@ -49,11 +50,11 @@ pub reading-near : ReadingsWithin bound
 unfolding readingAt
 reading-near a b x w hx =
     rw (line-error (spreadOf a b) (pos (units (b .grand))) x (scaledOf (rateBetween a b) x) (riseOf a b))
-    (correction-near (spreadOf a b) (gainedOf a b) x (omega (arith, w .limits .low)) hx)
+    (correction-near 1 (spreadOf a b) (gainedOf a b) x (scaledOf (rateBetween a b) x) (omega (arith, w .limits .low)) hx (scaled-near (rateBetween a b) x))
 
 -- ---- no smaller bound holds of every reading
 
-abbrev sample : ℕ → ℕ → Sample
+abbrev pub sample : ℕ → ℕ → Sample
 sample g r = record { grand = grandOf g; local = record { 0 = r }; error = record { 0 = 0 } }
 
 -- two samples between which a clock gained 1 over 2^36: its rate is a half, and goes up to 1

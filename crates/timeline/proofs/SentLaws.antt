@@ -1,31 +1,36 @@
--- Laws of sent grand time: document 01's formula, each case of the rule, never below zero, and demand 3.
+-- Laws of sent grand time and of the errorTime sent with it: document 01's formula, each case of the rule, never below zero, and demand 3.
 use mathlib.Core.Path.{_≡_, refl, sym, ap, _∙_, subst}
-use Prim.Native.Nat.{ℕ, suc, _+_, _<_, _≤_}
+use mathlib.Core.Logic.{_⊎_, inl, inr, ⊎-elim}
+use Prim.Native.Nat.{ℕ, suc, _+_, _^_, _<_, _≤_}
 use native.Mathlib.Nat.{le-of-lt}
 use native.Mathlib.Omega.{arith}
 use borrow.Author.Tests.{lt-ltb, le-ltb, ltb-true}
 use lib.Dec.{ltb}
-use lib.IntN.{ℤ, pos, negsuc, natAbs, _+ℤ_, _-ℤ_, _*ℤ_, -ℤ-+ℤ-cancel}
+use lib.IntN.{ℤ, pos, negsuc, natAbs, _+ℤ_, _-ℤ_, _*ℤ_, -ℤ-+ℤ-cancel, +ℤ-idr}
+use lib.Signed.{mag}
 use Rattle.numbers.specs.Whole.{atLeastZero}
-use Rattle.times.specs.Times.{grandEnd, sinceOf, units, InRange, momentOf}
+use Rattle.times.specs.Times.{grandEnd, sinceOf, units, InRange, momentOf, errorOf, errorEnd, errorTimeOf}
 use Rattle.times.specs.declared.LocalTime.{LocalTime}
 use Rattle.times.specs.declared.GrandTime.{GrandTime}
 use Rattle.times.specs.declared.ErrorTime.{ErrorTime}
 use Rattle.times.specs.declared.Moment.{Moment}
-use Rattle.samples.specs.Rate.{scaledOf}
+use Rattle.times.specs.declared.Moment.the-variants as Moments
+use Rattle.times.specs.declared.ErrorWithin.{ErrorWithin}
+use Rattle.samples.specs.Rate.{steepest, scaledOf}
 use Rattle.samples.specs.Keep.{spreadOf, rateBetween, endsOf, LawfulEnds, LawfulSamples}
 use Rattle.samples.specs.declared.Sample.{Sample}
 use Rattle.samples.specs.declared.Samples.{Samples}
 use Rattle.samples.specs.declared.Ends.{Ends}
 use Rattle.samples.specs.declared.Ends.the-variants.{Few as TooFew, Both}
 use Rattle.timeline.specs.Line.{InReach, readingAt, bound, lineAt, NearLine}
-use Rattle.timeline.specs.Sent.{longestElapsed, reachOf, sentTime, sentAs, sentThrough, sentOf, sentNo}
+use Rattle.timeline.specs.Sent.{longestElapsed, reachOf, sentTime, errorBy, sentError, sentAs, sentThrough, sentOf, sentNo}
 use Rattle.timeline.specs.declared.Sent.{Sent}
 use Rattle.timeline.specs.declared.Sent.the-variants.{At, Few, Late, Beyond}
 use Rattle.numbers.proofs.Branches.{if-true, if-false, if-when}
 use Rattle.numbers.proofs.Ring.{same, split, of-pos, neg-pos, minus-is, sub-lt, sub-ge, sub-+, sub-*, sub-neg-is}
 use Rattle.times.proofs.TimeLaws.{moment-is}
-use Rattle.samples.proofs.RateLaws.{scaled-small}
+use Rattle.times.proofs.ErrorLaws.{error-size, error-is}
+use Rattle.samples.proofs.RateLaws.{scaled-none, scaled-small}
 use Rattle.samples.proofs.KeepLaws.{between-small, ends-lawful}
 use Rattle.timeline.proofs.Bound.{reading-near}
 
@@ -82,74 +87,104 @@ module _ (a b : Sample) (elapsed back : ℕ) where
         plus-kept n (pos k) h = refl
         plus-kept n (negsuc k) h = rw (le-ltb n (suc k) h)
 
+-- ---- errorTime
+
+-- nothing is made up for where there is no rest
+pub no-rest : (rate : ℤ) (b : Sample) → errorBy rate b 0 ≡ errorOf (b .error)
+no-rest rate b = ap (λ (z : ℤ). errorOf (b .error) +ℤ z) (scaled-none rate) ∙ +ℤ-idr (errorOf (b .error))
+
+-- both parts of it together are small
+pub error-small : (rate : ℤ) (b : Sample) (rest : ℕ) → natAbs rate ≤ steepest → rest < longestElapsed → natAbs (errorOf (b .error)) + natAbs (scaledOf rate (pos rest)) < 2 ^ 63
+error-small rate b rest hr h = omega (arith, error-size (b .error), scaled-small rate (pos rest) hr (omega arith))
+
 -- ---- what a frame carries, case by case
 
-module _ (samples : Samples) (t : LocalTime) (back : ℕ) where
-  pub sent-through : {e : Ends} → e ≡ endsOf samples → sentThrough e t back ≡ sentOf samples t back
+module _ (samples : Samples) (t : LocalTime) (back rest : ℕ) where
+  pub sent-through : {e : Ends} → e ≡ endsOf samples → sentThrough e t back rest ≡ sentOf samples t back rest
   unfolding sentOf
-  sent-through e = ap (λ (x : Ends). sentThrough x t back) e
+  sent-through e = ap (λ (x : Ends). sentThrough x t back rest) e
 
-  pub sent-late : {a b : Sample} → Both a b ≡ endsOf samples → longestElapsed ≤ sinceOf t (b .local) → Late ≡ sentOf samples t back
+  pub sent-late : {a b : Sample} → Both a b ≡ endsOf samples → longestElapsed ≤ sinceOf t (b .local) → Late ≡ sentOf samples t back rest
   sent-late e h = if-false _ _ _ (le-ltb _ _ h) ∙ sent-through e
 
-  pub sent-as : {a b : Sample} {m : Moment} → Both a b ≡ endsOf samples → sinceOf t (b .local) < longestElapsed
-      → m ≡ momentOf (sentTime a b (sinceOf t (b .local)) back) → sentAs m (b .error) ≡ sentOf samples t back
-  sent-as {a} {b} e h k = ap (λ (m : Moment). sentAs m (b .error)) k ∙ if-true _ _ _ (lt-ltb _ _ h) ∙ sent-through e
+  pub sent-as : {a b : Sample} {m : Moment} {x : ErrorWithin} → Both a b ≡ endsOf samples → sinceOf t (b .local) < longestElapsed
+      → m ≡ momentOf (sentTime a b (sinceOf t (b .local)) back) → x ≡ errorTimeOf (sentError a b rest) → sentAs m x ≡ sentOf samples t back rest
+  sent-as e h k l = (λ i. sentAs (k i) (l i)) ∙ if-true _ _ _ (lt-ltb _ _ h) ∙ sent-through e
+
+  -- neither fits in a frame: the sent time is at the end of grand time or below zero, or errorTime leaves its bits
+  abbrev pub Unfit : Sample → Sample → Type 0
+  Unfit a b = ((n : ℕ) → sentTime a b (sinceOf t (b .local)) back ≡ pos n → grandEnd ≤ n) ⊎ (errorEnd ≤ mag (sentError a b rest))
 
   -- what holds in each case holds of what a frame carries
   pub sent-is : (P : Sent → Type 0) → P Few → P Late
-      → ((a b : Sample) (g : GrandTime) → endsOf samples ≡ Both a b → sinceOf t (b .local) < longestElapsed
-      → InRange g → pos (units g) ≡ sentTime a b (sinceOf t (b .local)) back → P (At g (b .error)))
-      → ((a b : Sample) → endsOf samples ≡ Both a b → sinceOf t (b .local) < longestElapsed
-      → ((n : ℕ) → sentTime a b (sinceOf t (b .local)) back ≡ pos n → grandEnd ≤ n) → P Beyond)
-      → P (sentOf samples t back)
+      → ((a b : Sample) (g : GrandTime) (e : ErrorTime) → endsOf samples ≡ Both a b → sinceOf t (b .local) < longestElapsed
+      → InRange g → pos (units g) ≡ sentTime a b (sinceOf t (b .local)) back → e .0 < 2 ^ 32 → errorOf e ≡ sentError a b rest → P (At g e))
+      → ((a b : Sample) → endsOf samples ≡ Both a b → sinceOf t (b .local) < longestElapsed → Unfit a b → P Beyond)
+      → P (sentOf samples t back rest)
   unfolding sentOf
   sent-is P few late at beyond = by (endsOf samples) refl
     where
-      by : (e : Ends) → endsOf samples ≡ e → P (sentThrough e t back)
+      by : (e : Ends) → endsOf samples ≡ e → P (sentThrough e t back rest)
       by TooFew k = few
       by (Both a b) k =
           if-when P (ltb (sinceOf t (b .local)) longestElapsed)
-          (λ e.
-          let l = ltb-true _ _ e in
-          moment-is (λ (m : Moment). P (sentAs m (b .error))) (sentTime a b (sinceOf t (b .local)) back) (λ g. at a b g k l) (beyond a b k l))
+          (λ q.
+          let l = ltb-true _ _ q in
+          let z = sentTime a b (sinceOf t (b .local)) back in
+          let y = sentError a b rest in
+          moment-is (λ (m : Moment). P (sentAs m (errorTimeOf y))) z
+          (λ g r u. error-is (λ (x : ErrorWithin). P (sentAs (Moments.At g) x)) y (λ e s v. at a b g e k l r u s v) (λ out. beyond a b k l (inr out)))
+          (λ end. beyond a b k l (inl end)))
           (λ _. late)
 
-  -- 13 is answered only where the sent time reaches the end of grand time: the part below zero never occurs
-  pub sent-beyond : LawfulSamples samples → back < longestElapsed → sentOf samples t back ≡ Beyond
-      → (a : Sample) × (b : Sample) × (endsOf samples ≡ Both a b) × (grandEnd ≤ atLeastZero (sentTime a b (sinceOf t (b .local)) back))
+  -- 13 is answered only where the sent time reaches the end of grand time, for the part below zero never occurs, or where errorTime leaves its bits
+  pub sent-beyond : LawfulSamples samples → back < longestElapsed → sentOf samples t back rest ≡ Beyond
+      → (a : Sample) × (b : Sample) × (endsOf samples ≡ Both a b)
+      × ((grandEnd ≤ atLeastZero (sentTime a b (sinceOf t (b .local)) back)) ⊎ (errorEnd ≤ mag (sentError a b rest)))
   sent-beyond w hb =
       sent-is
-      (λ (s : Sent). s ≡ Beyond → (a : Sample) × (b : Sample) × (endsOf samples ≡ Both a b) × (grandEnd ≤ atLeastZero (sentTime a b (sinceOf t (b .local)) back)))
+      (λ (s : Sent). s ≡ Beyond → (a : Sample) × (b : Sample) × (endsOf samples ≡ Both a b)
+      × ((grandEnd ≤ atLeastZero (sentTime a b (sinceOf t (b .local)) back)) ⊎ (errorEnd ≤ mag (sentError a b rest))))
       (λ q. absurd (omega (arith, ap sentNo q)))
       (λ q. absurd (omega (arith, ap sentNo q)))
-      (λ _ _ _ _ _ _ _ q. absurd (omega (arith, ap sentNo q)))
-      (λ a b k l end _. (a, b, k, end _ (sym (sent-units a b _ back l hb (ends-lawful samples a b w k)))))
+      (λ _ _ _ _ _ _ _ _ _ _ q. absurd (omega (arith, ap sentNo q)))
+      (λ a b k l unfit _. (a, b, k, ⊎-elim (λ end. inl (end _ (sym (sent-units a b _ back l hb (ends-lawful samples a b w k))))) inr unfit))
 
--- ---- what a time that is sent tells: the two ends of the samples, and the moment on the line through them
+-- ---- what times that are sent tell: the two ends of the samples, the moment on the line through them, and the errorTime
 
-pub record Departure (samples : Samples) (t : LocalTime) (back : ℕ) (g : GrandTime) (e : ErrorTime) : Type 0 where
+pub record Departure (samples : Samples) (t : LocalTime) (back rest : ℕ) (g : GrandTime) (e : ErrorTime) : Type 0 where
   pub oldest : Sample
   pub newest : Sample
   pub kept : endsOf samples ≡ Both oldest newest
   pub soon : sinceOf t (newest .local) < longestElapsed
   pub range : InRange g
   pub time : pos (units g) ≡ sentTime oldest newest (sinceOf t (newest .local)) back
-  pub fault : e ≡ newest .error
+  pub bits : e .0 < 2 ^ 32
+  pub error : errorOf e ≡ sentError oldest newest rest
 
-module _ (samples : Samples) (t : LocalTime) (back : ℕ) (g : GrandTime) (e : ErrorTime) where
-  pub departure : sentOf samples t back ≡ At g e → Departure samples t back g e
+module _ (samples : Samples) (t : LocalTime) (back rest : ℕ) (g : GrandTime) (e : ErrorTime) where
+  pub departure : sentOf samples t back rest ≡ At g e → Departure samples t back rest g e
   departure =
-      sent-is samples t back (λ (s : Sent). s ≡ At g e → Departure samples t back g e)
+      sent-is samples t back rest (λ (s : Sent). s ≡ At g e → Departure samples t back rest g e)
       (λ q. absurd (omega (arith, ap sentNo q)))
       (λ q. absurd (omega (arith, ap sentNo q)))
-      (λ a b h k l r z q.
+      (λ a b h x k l r z s v q.
       let p : h ≡ g = cc in
-      record { oldest = a; newest = b; kept = k; soon = l; range = subst InRange p r; time = ap (λ (x : GrandTime). pos (units x)) (sym p) ∙ z; fault = cc })
+      let y : x ≡ e = cc in
+      record {
+        oldest = a;
+        newest = b;
+        kept = k;
+        soon = l;
+        range = subst InRange p r;
+        time = ap (λ (x : GrandTime). pos (units x)) (sym p) ∙ z;
+        bits = subst (λ (x : ErrorTime). x .0 < 2 ^ 32) y s;
+        error = ap errorOf (sym y) ∙ v;
+      })
       (λ _ _ _ _ _ q. absurd (omega (arith, ap sentNo q)))
 
-  -- demand 3 for what a frame carries
-  pub sent-near : (d : Departure samples t back g e) → LawfulSamples samples → back < longestElapsed
+  -- demand 3 for what a frame carries, whatever errorTime makes up for
+  pub sent-near : (d : Departure samples t back rest g e) → LawfulSamples samples → back < longestElapsed
       → NearLine bound (d .oldest) (d .newest) (pos (units g)) (reachOf (sinceOf t (d .newest .local)) back) back
   sent-near d w hb =
       subst (λ (z : ℤ). NearLine bound (d .oldest) (d .newest) z (reachOf (sinceOf t (d .newest .local)) back) back) (sym (d .time))

@@ -28,6 +28,10 @@ readingAt a b x = readingBy (rateBetween a b) b x
 abbrev pub bound : ℕ
 bound = 9
 
+-- a sent grand time with what errorTime makes up for lies less than this many units from the line at the departure itself: one rounding more
+abbrev pub departureBound : ℕ
+departureBound = 10
+
 -- S times the exact line's grand time, x units of local time after the newest sample: S × (g1 + (g1 - g0) / S × x)
 abbrev pub lineAt : Sample → Sample → ℤ → ℤ
 lineAt a b x = pos (spreadOf a b) *ℤ pos (units (b .grand)) +ℤ riseOf a b *ℤ x

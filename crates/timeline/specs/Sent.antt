@@ -1,20 +1,22 @@
--- Sent grand time.
+-- Sent grand time, and the errorTime that is sent with it.
 use mathlib.Core.Bool.{cond}
-use Prim.Native.Nat.{ℕ, _^_}
+use Prim.Native.Nat.{ℕ, _^_, _<_}
 use lib.Dec.{ltb}
 use lib.IntN.{ℤ, pos, _+ℤ_, _-ℤ_}
 use Rattle.refusals.specs.Refusals.{done, fewSamples, tooLate, beyondRange}
-use Rattle.times.specs.Times.{sinceOf, momentOf}
+use Rattle.times.specs.Times.{sinceOf, momentOf, errorOf, errorTimeOf}
 use Rattle.times.specs.declared.LocalTime.{LocalTime}
-use Rattle.times.specs.declared.ErrorTime.{ErrorTime}
 use Rattle.times.specs.declared.Moment.{Moment}
 use Rattle.times.specs.declared.Moment.the-variants as Moments
-use Rattle.samples.specs.Keep.{endsOf}
+use Rattle.times.specs.declared.ErrorWithin.{ErrorWithin}
+use Rattle.times.specs.declared.ErrorWithin.the-variants as Errors
+use Rattle.samples.specs.Rate.{scaledOf}
+use Rattle.samples.specs.Keep.{rateBetween, endsOf, LawfulEnds}
 use Rattle.samples.specs.declared.Sample.{Sample}
 use Rattle.samples.specs.declared.Samples.{Samples}
 use Rattle.samples.specs.declared.Ends.{Ends}
 use Rattle.samples.specs.declared.Ends.the-variants.{Few as TooFew, Both}
-use Rattle.timeline.specs.Line.{readingAt}
+use Rattle.timeline.specs.Line.{readingAt, NearLine}
 use Rattle.timeline.specs.declared.Sent.{Sent}
 use Rattle.timeline.specs.declared.Sent.the-variants.{At, Few, Late, Beyond}
 
@@ -30,19 +32,29 @@ reachOf elapsed back = pos elapsed -ℤ pos back
 unfoldable pub sentTime : Sample → Sample → ℕ → ℕ → ℤ
 sentTime a b elapsed back = readingAt a b (reachOf elapsed back) +ℤ pos back
 
--- what a frame carries of that moment: 13 where there is none. A sent time is never below zero, says `sent-units`
-abbrev pub sentAs : Moment → ErrorTime → Sent
-sentAs (Moments.At g) e = At g e
+-- the errorTime sent with it, at a rate: the newest sample's, and floor(rate × rest / 2^35). The rest is how much of the time before the departure
+-- went into the sent grand time at the local rate and is made up for here: backTime, or none of it
+abbrev pub errorBy : ℤ → Sample → ℕ → ℤ
+errorBy rate b rest = errorOf (b .error) +ℤ scaledOf rate (pos rest)
+
+-- the same at the rate between the oldest and the newest sample
+unfoldable pub sentError : Sample → Sample → ℕ → ℤ
+sentError a b rest = errorBy (rateBetween a b) b rest
+
+-- what a frame carries of both: 13 where one of them does not fit. A sent time is never below zero, says `sent-units`
+abbrev pub sentAs : Moment → ErrorWithin → Sent
+sentAs (Moments.At g) (Errors.Is e) = At g e
+sentAs (Moments.At g) Errors.Beyond = Beyond
 sentAs Moments.Beyond e = Beyond
 
 -- what a frame that departs at t carries, by the two ends of the samples
-abbrev pub sentThrough : Ends → LocalTime → ℕ → Sent
-sentThrough TooFew t back = Few
-sentThrough (Both a b) t back =
-    cond (ltb (sinceOf t (b .local)) longestElapsed) (sentAs (momentOf (sentTime a b (sinceOf t (b .local)) back)) (b .error)) Late
+abbrev pub sentThrough : Ends → LocalTime → ℕ → ℕ → Sent
+sentThrough TooFew t back rest = Few
+sentThrough (Both a b) t back rest =
+    cond (ltb (sinceOf t (b .local)) longestElapsed) (sentAs (momentOf (sentTime a b (sinceOf t (b .local)) back)) (errorTimeOf (sentError a b rest))) Late
 
-unfoldable pub sentOf : Samples → LocalTime → ℕ → Sent
-sentOf samples t back = sentThrough (endsOf samples) t back
+unfoldable pub sentOf : Samples → LocalTime → ℕ → ℕ → Sent
+sentOf samples t back rest = sentThrough (endsOf samples) t back rest
 
 -- document 01's number of a sent time, or of why there is none
 abbrev pub sentNo : Sent → ℕ
@@ -50,3 +62,10 @@ sentNo (At g e) = done
 sentNo Few = fewSamples
 sentNo Late = tooLate
 sentNo Beyond = beyondRange
+
+-- every sent grand time and errorTime together, backTime made up for, less the newest sample's errorTime, lies less than k units from the line at the
+-- departure itself. `departureBound` is the least such k
+abbrev pub DeparturesWithin : ℕ → Type 0
+DeparturesWithin k =
+    (a b : Sample) (elapsed back : ℕ) → LawfulEnds a b → elapsed < longestElapsed → back < longestElapsed
+    → NearLine k a b (sentTime a b elapsed back +ℤ sentError a b back -ℤ errorOf (b .error)) (pos elapsed) 0

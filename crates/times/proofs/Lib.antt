@@ -1,4 +1,5 @@
 pub mod TestLaws
 pub mod TimeLaws
 pub mod RiseLaws
+pub mod ErrorLaws
 pub mod Cases

@@ -3,13 +3,16 @@ use mathlib.Core.Bool.{cond, _&&_}
 use Prim.Native.Nat.{ℕ, _+_, _-_, _*_, _/_, _%_, _^_, _<_}
 use lib.Dec.{leb, ltb}
 use lib.IntN.{ℤ, pos, negsuc}
+use lib.Signed.{mag}
 use mir.Syntax.{w32}
-use mir.Val.{toZ}
+use mir.Val.{toZ, ofZ}
 use Rattle.times.specs.declared.LocalTime.{LocalTime}
 use Rattle.times.specs.declared.GrandTime.{GrandTime}
 use Rattle.times.specs.declared.ErrorTime.{ErrorTime}
 use Rattle.times.specs.declared.Moment.{Moment}
 use Rattle.times.specs.declared.Moment.the-variants.{At, Beyond}
+use Rattle.times.specs.declared.ErrorWithin.{ErrorWithin}
+use Rattle.times.specs.declared.ErrorWithin.the-variants as Errors
 use Rattle.times.specs.declared.Rise.{Rise}
 use Rattle.times.specs.declared.Rise.the-variants.{By, Far}
 
@@ -62,6 +65,14 @@ riseWithin a b = cond (leb a b && ltb (b - a) second) (By (b - a)) Far
 -- errorTime as a signed number
 abbrev pub errorOf : ErrorTime → ℤ
 errorOf e = toZ w32 (e .0)
+
+-- where errorTime ends: 32 bits, one of them for the sign
+abbrev pub errorEnd : ℕ
+errorEnd = 2 ^ 31
+
+-- the errorTime of a whole number of units, where there is one: from -2^31 to 2^31 - 1
+unfoldable pub errorTimeOf : ℤ → ErrorWithin
+errorTimeOf z = cond (ltb (mag z) errorEnd) (Errors.Is (record { 0 = ofZ w32 z })) Errors.Beyond
 
 -- how many frameCounts there are, and the one that follows: the theorem `count-is` says that this is c - 255, modulo 256
 abbrev pub counts : ℕ

@@ -1,5 +1,6 @@
 // The two kinds of time, which never stand for each other, and the arithmetic on each.
 // The unit of every time is U = 2^-40 s.
+pub mod error;
 pub mod grand;
 pub mod local;
 
@@ -15,6 +16,12 @@ pub struct ErrorTime(pub u32);
 // A grand time, or that it would be below zero or reach the end of grand time.
 pub enum Moment {
     At(GrandTime),
+    Beyond,
+}
+
+// An errorTime, or that it would leave its 32 bits.
+pub enum ErrorWithin {
+    Is(ErrorTime),
     Beyond,
 }
 

@@ -6,6 +6,7 @@ use super::pen::Pen;
 use super::plans;
 use super::random::Random;
 use super::timestamps;
+use super::versions;
 use crate::bridge::{OWN, PORTS_MOST};
 use crate::frame::{self, Fields};
 use crate::port::Port;
@@ -47,6 +48,9 @@ pub fn live(pen: &mut Pen) {
         let refused = plans::refused(&mut pen.random);
         pen.setup(&refused);
     }
+    if pen.random.often(500) {
+        versions::be_refused(pen);
+    }
     let plan = plans::good(&mut pen.random);
     pen.setup(&plan);
     let all = ((1_u16 << plan.ports) - 1) as u8;
@@ -78,7 +82,8 @@ impl Plans {
             self.aim_frame(pen);
         }
         match pen.random.below(100) {
-            0..=29 => extras::edge_send(pen),
+            0..=20 => extras::edge_send(pen),
+            21..=29 => versions::send_at_all(pen),
             30..=32 => extras::edge_age(pen),
             33..=59 => extras::ask(pen),
             60..=61 => extras::any_call(pen),
@@ -94,6 +99,7 @@ impl Plans {
         let place = pen.random.below(ports.min(3)) as usize;
         let port = pen.bridge().ports[place];
         let chosen_hop = pen.bridge().best().map_or(HOP_NONE, |chosen| chosen.hop);
+        let back = pen.bridge().settings.back;
         let random = &mut pen.random;
         let p = port
             .record
@@ -103,16 +109,18 @@ impl Plans {
         let (that_tx, that_rx) = aim_that(random, &port, local, p, self.delays[place]);
         let delay = expected_delay(&port, local, p, that_tx, that_rx);
         let taken_at = moved(p, -i128::from(delay));
+        let grand = aim_grand(random, &port.record.samples, taken_at);
         let fields = Fields {
+            version: versions::known(random),
             sa: [2, 0, 0, 0, 0, place as u8],
             precedence: aim_precedence(random, &port),
             hop: aim_hop(random, chosen_hop),
             count: aim_count(random, port.record.last.map(|heard| heard.count)),
-            grand: aim_grand(random, &port.record.samples, taken_at),
+            grand,
             local,
             that_tx,
             that_rx,
-            error: random.bits() as i32,
+            error: aim_error(random, &port.record.samples, (grand, taken_at), back),
         };
         self.delays[place] = port.fixed.unwrap_or_else(|| next_delay(random));
         let way = aim_way(random, delay, self.delays[place]);
@@ -324,6 +332,13 @@ fn aim_grand(random: &mut Random, samples: &Samples, local: u64) -> u128 {
     } else {
         start_grand(random)
     }
+}
+
+/// Gives an errorTime, often one for which what version 2 sends is at an end of 32 bits.
+fn aim_error(random: &mut Random, samples: &Samples, next: (u128, u64), back: u64) -> i32 {
+    let edge = versions::edge_error(random, samples, next, back);
+    edge.filter(|_| random.often(500))
+        .unwrap_or_else(|| random.bits() as i32)
 }
 
 /// Gives a grand time at an end or anywhere.

@@ -1,9 +1,10 @@
-//! Counts how often each call gave each answer, how the frames that were taken came by their held hops, which way rates were rounded, what places of the ranking showed, which numbers of passes left were printed, what listeners did and how they were heard, and where scales left their range.
+//! Counts how often each call gave each answer, how the frames that were taken came by their held hops, which way rates were rounded, what places of the ranking showed, which numbers of passes left were printed, what listeners did and how they were heard, how versions fared, and where scales left their range.
 
 use super::latches;
 use super::limits;
 use super::listener_census::ListenerCensus;
 use super::pen::answer_of;
+use super::version_census::VersionCensus;
 use crate::answer::{
     Answer, BAD_DELAY, BAD_LINE, BEYOND_RANGE, DONE, NO_CLOCK, OUT_OF_RANGE, OUT_OF_REACH, TOO_FAR,
     TOO_FEW_SAMPLES,
@@ -19,7 +20,7 @@ use std::cmp::Ordering;
 use std::fmt;
 
 /// The letters of the calls whose answers are numbers, but for stamps, timestamps and scales, which are counted by themselves.
-const LETTERS: [u8; 10] = *b"SPLORATDFW";
+const LETTERS: [u8; 11] = *b"SPVLORATDFW";
 /// How many answers there are.
 pub(super) const ANSWERS: usize = BAD_LINE as usize + 1;
 
@@ -312,7 +313,7 @@ impl RankingCensus {
     fn event_of(&self, line: &[u8], reply: &[u8], after: &[Chosen], links: usize) -> Option<usize> {
         let changed = self.ranking != after;
         match line.first()? {
-            b'S' | b'P' if reply != b"0E" => Some(SET_UP),
+            b'S' | b'P' | b'V' if reply != b"0E" => Some(SET_UP),
             b'L' if changed => Some(LOST),
             b'L' if links > self.links => Some(LINKED),
             b'A' if changed => Some(AGED),
@@ -570,6 +571,7 @@ pub struct Census {
     ranking: RankingCensus,
     passes: PassesCensus,
     listeners: ListenerCensus,
+    versions: VersionCensus,
     timestamps: TimestampCensus,
 }
 
@@ -582,6 +584,7 @@ impl Census {
         self.ranking.count(line, reply, bridge);
         self.passes.count(line, reply);
         self.listeners.count(line, reply, bridge);
+        self.versions.count(line, reply, bridge);
         self.timestamps.count(line, reply);
         if reply == b"0E" {
             self.bad += 1;
@@ -628,6 +631,7 @@ impl Census {
             && self.ranking.missing().is_empty()
             && self.passes.missing().is_empty()
             && self.listeners.missing().is_empty()
+            && self.versions.missing().is_empty()
             && self.timestamps.missing().is_empty()
             && self.stamps.counts[NOWHERE][usize::from(OUT_OF_RANGE)] > 0
     }
@@ -657,7 +661,7 @@ impl fmt::Display for Census {
         writeln!(out, "B    part {}, none {}", self.parts, self.no_parts)?;
         writeln!(out, "D    readings {}", self.readings)?;
         write!(out, "{}{}{}", self.hops, self.rates, self.ranking)?;
-        write!(out, "{}{}", self.passes, self.listeners)?;
+        write!(out, "{}{}{}", self.passes, self.listeners, self.versions)?;
         writeln!(out, "no call (14) {}", self.bad)?;
         writeln!(out, "lines {}", self.lines)?;
         writeln!(out, "answers missing {:?}", self.missing())

@@ -9,8 +9,9 @@ use super::plans;
 use super::random::Random;
 use super::spoil;
 use super::timestamps;
+use super::versions;
 use crate::answer::{BEYOND_RANGE, NO_CLOCK};
-use crate::frame::{self, Fields, FRAME_LEN};
+use crate::frame::{self, Fields, Version, FRAME_LEN};
 use crate::replay::BYTES_MOST;
 use crate::rules::{self, HOP_NONE, REACH_END};
 use crate::times::{moved, GRAND_END, LOCAL_END, PART_END};
@@ -34,12 +35,17 @@ pub fn any_port(pen: &mut Pen) -> u8 {
     }
 }
 
-/// Gives a linked port, if there is one.
-pub fn linked_port(pen: &mut Pen) -> Option<u8> {
-    let linked: Vec<u8> = (1..)
+/// Gives all linked ports.
+pub fn linked_ports(pen: &Pen) -> Vec<u8> {
+    (1..)
         .zip(&pen.bridge().ports)
         .filter_map(|(number, port)| port.linked.then_some(number))
-        .collect();
+        .collect()
+}
+
+/// Gives a linked port, if there is one.
+pub fn linked_port(pen: &mut Pen) -> Option<u8> {
+    let linked = linked_ports(pen);
     (!linked.is_empty()).then(|| pen.random.pick(&linked))
 }
 
@@ -121,14 +127,10 @@ pub fn edge_send(pen: &mut Pen) {
         return;
     };
     let top = samples.both().and_then(|(older, newer)| {
+        let rate = rules::sample_rate(older.point(), newer.point());
         let unfit = |reach| {
             let departure = moved(newer.local, reach);
-            !rules::fits_grand(rules::sent_grand(
-                older.point(),
-                newer.point(),
-                back,
-                departure,
-            ))
+            !rules::fits_grand(rules::sent_grand(rate, newer.point(), back, departure))
         };
         first_where(0, i128::from(REACH_END) - 1, unfit)
     });
@@ -213,6 +215,7 @@ fn dressed(pen: &mut Pen) -> Vec<u8> {
 /// Gives fields by chance, all in range.
 fn any_fields(random: &mut Random) -> Fields {
     Fields {
+        version: versions::known(random),
         sa: [2, 0, 0, 0, 0, random.bits() as u8],
         precedence: plans::precedence(random),
         hop: random.pick(&[0, 1, 2, 3, 253, 254, 255]),
@@ -225,10 +228,11 @@ fn any_fields(random: &mut Random) -> Fields {
     }
 }
 
-/// Writes fields, now and then with a time out of range.
+/// Writes fields, now and then with a time out of range, and in any version.
 fn write_frame(pen: &mut Pen) {
     let mut fields = any_fields(&mut pen.random);
     let random = &mut pen.random;
+    fields.version = versions::any(random);
     let (mut seconds, mut fraction) = (random.below(PART_END), random.below(PART_END));
     match random.below(8) {
         0 => seconds = any_part(random),
@@ -261,20 +265,29 @@ fn compare_frames(pen: &mut Pen) {
     }
 }
 
-/// Gives a frame that differs from another in precedence or hop only, or not at all.
+/// Gives a frame that differs from another in precedence, hop or version only, or not at all.
 fn near_frame(pen: &mut Pen, bytes: &[u8]) -> Vec<u8> {
     let Ok(mut fields) = frame::read(bytes) else {
         return bytes.to_vec();
     };
     let random = &mut pen.random;
-    match random.below(4) {
+    match random.below(5) {
         0 => fields.hop = random.pick(&[fields.hop.saturating_add(1), 254, 255, 0]),
         1 => fields.precedence = plans::precedence(random),
         2 => fields.precedence ^= 1 << random.below(104),
+        3 => fields.version = other(fields.version),
         _ => fields.grand = 0,
     }
     fields.sa[5] ^= 1;
     frame::put_together(&fields).to_vec()
+}
+
+/// Gives the other of the two versions.
+fn other(version: Version) -> Version {
+    match version {
+        Version::ONE => Version::TWO,
+        _ => Version::ONE,
+    }
 }
 
 /// Makes calls by chance on whatever bridge there is, at times after a refused setup.

@@ -19,7 +19,7 @@ use crate::times::spread;
 use std::fmt;
 
 /// How a setup of a listener ended: taken with a port of either kind, or refused for one reason alone, or no line.
-const SETUPS: [&str; 10] = [
+const SETUPS: [&str; 11] = [
     "measured",
     "fixed",
     "no port",
@@ -29,6 +29,7 @@ const SETUPS: [&str; 10] = [
     "default back time",
     "timeout",
     "delay",
+    "version",
     "no line",
 ];
 const MEASURED: usize = 0;
@@ -40,7 +41,8 @@ const BACK_TIME: usize = 5;
 const DEFAULT_BACK_TIME: usize = 6;
 const TIMEOUT: usize = 7;
 const DELAY: usize = 8;
-const NO_LINE: usize = 9;
+const VERSION: usize = 9;
+const NO_LINE: usize = 10;
 
 /// What each call of a listener should answer at the least: a send with no number from 10 to 13, an own clock with none but 2 and 10.
 const WANTED: [(u8, &[Answer]); 7] = [
@@ -138,7 +140,7 @@ pub struct ListenerCensus {
 impl ListenerCensus {
     /// Counts a line with its answer and the bridge after it.
     pub fn count(&mut self, line: &[u8], reply: &[u8], bridge: &Listed) {
-        if line.starts_with(b"P ") {
+        if line.starts_with(b"P ") || line.starts_with(b"V 1 ") {
             self.count_setup(line, reply);
         } else if reply != b"0E" {
             match bridge.settings.profile {
@@ -152,7 +154,7 @@ impl ListenerCensus {
 
     /// Counts a setup of a listener.
     fn count_setup(&mut self, line: &[u8], reply: &[u8]) {
-        let kind = match replay::listener_in(line) {
+        let kind = match replay::plan_in(line) {
             Some(plan) => setup_kind(&plan, answer_of(reply)),
             None => Some(NO_LINE),
         };
@@ -282,7 +284,7 @@ impl fmt::Display for ListenerCensus {
 }
 
 /// Adds one to the count of each kind that was found.
-fn add(counts: &mut [u64], kinds: &[(usize, bool)]) {
+pub(super) fn add(counts: &mut [u64], kinds: &[(usize, bool)]) {
     for (kind, found) in kinds {
         counts[*kind] += u64::from(*found);
     }
@@ -290,8 +292,9 @@ fn add(counts: &mut [u64], kinds: &[(usize, bool)]) {
 
 /// Gives how a setup of a listener ended, unless it had more than one reason to be refused.
 fn setup_kind(plan: &Plan, answer: Answer) -> Option<usize> {
-    let looked_at = plan.delays.iter().take(usize::from(plan.ports)).flatten();
     let ports = usize::from(plan.ports);
+    let looked_at = plan.delays.iter().take(ports).flatten();
+    let mut versions = plan.versions.iter().take(ports);
     let timeout = plan.timeout.unwrap_or(TIMEOUT_DEFAULT);
     let faults = [
         (NO_PORT, !(1..=PORTS_MOST).contains(&ports)),
@@ -307,6 +310,7 @@ fn setup_kind(plan: &Plan, answer: Answer) -> Option<usize> {
             DELAY,
             looked_at.max().is_some_and(|most| *most > DELAY_MOST),
         ),
+        (VERSION, !versions.all(|version| version.is_known())),
     ];
     let found: Vec<usize> = faults
         .into_iter()
@@ -332,13 +336,13 @@ fn full_answer(listener: &Listed, departure: u64) -> Answer {
 }
 
 /// Gives the fields of the frame that a line had sent.
-fn sent_in(line: &[u8], reply: &[u8]) -> Option<Fields> {
+pub(super) fn sent_in(line: &[u8], reply: &[u8]) -> Option<Fields> {
     let bytes = line.strip_prefix(b"T ").and(reply.strip_prefix(b"00 "))?;
     fields_of(bytes.get(..2 * FRAME_LEN)?)
 }
 
 /// Gives the fields of the frame that a line has arrive.
-fn heard_in(line: &[u8]) -> Option<Fields> {
+pub(super) fn heard_in(line: &[u8]) -> Option<Fields> {
     let fields = line.strip_prefix(b"R ")?;
     fields_of(fields.rsplit(|letter| *letter == b' ').next()?)
 }
@@ -350,8 +354,8 @@ fn fields_of(digits: &[u8]) -> Option<Fields> {
     frame::read(bytes).ok()
 }
 
-/// Gives the place in the table of the port in a line of an arrival.
-fn place_in(line: &[u8]) -> Option<usize> {
+/// Gives the place in the table of the port in a line of an arrival or of a send.
+pub(super) fn place_in(line: &[u8]) -> Option<usize> {
     let port = line.split(|letter| *letter == b' ').nth(1)?;
     usize::try_from(hex::number(port)?).ok()?.checked_sub(1)
 }

@@ -11,6 +11,7 @@ use crate::answer::DONE;
 use crate::bridge::{Calls, Listed, Plan, Profile, OWN};
 use crate::frame::{self, Fields, FRAME_LEN, PRECEDENCE_WORST};
 use crate::rules::{HOP_LAST, HOP_NONE};
+use crate::times::LOCAL_END;
 
 /// The port that a far station has.
 const FAR_PORT: u8 = 1;
@@ -296,12 +297,12 @@ impl Cables {
         }
         match pen.random.below(100) {
             0 => self.lose_link(pen, place),
-            1..=3 if self.fars.len() > 1 => self.lose_chosen(pen),
-            4 | 5 => self.fars[place].silent = pen.random.sized(8),
-            6 => self.pause(pen),
-            7 => extras::edge_age(pen),
-            8 | 9 => self.move_grand(&mut pen.random, place),
-            10..=21 => extras::edge_send(pen),
+            1..=4 if self.fars.len() > 1 => self.lose_chosen(pen),
+            5 | 6 => self.fars[place].silent = pen.random.sized(8),
+            7 => self.pause(pen),
+            8 => extras::edge_age(pen),
+            9 | 10 => self.move_grand(&mut pen.random, place),
+            11..=21 => extras::edge_send(pen),
             22..=24 => send_anyhow(pen),
             25 => self.read_own(pen),
             26..=35 => {
@@ -312,6 +313,9 @@ impl Cables {
             66..=75 => panel::look(pen),
             76..=83 => extras::any_call(pen),
             84..=86 => self.send_round(pen, place),
+            87 => {
+                pen.age(LOCAL_END);
+            }
             _ => {}
         }
     }

@@ -3,6 +3,7 @@
 mod aimed;
 pub mod census;
 mod clocks;
+mod errors;
 mod extras;
 pub(crate) mod latches;
 pub(crate) mod limits;
@@ -19,6 +20,8 @@ mod rivals;
 mod spoil;
 pub mod stamped;
 mod timestamps;
+pub mod version_census;
+mod versions;
 
 use crate::bridge::Listed;
 use pen::Pen;
@@ -26,13 +29,18 @@ use random::Random;
 use std::io;
 
 /// Of a hundred lives, how many are of a network of drifting neighbours.
-const NETWORK_SHARE: u64 = 36;
+const NETWORK_SHARE: u64 = 28;
 /// Of a hundred lives, how many are of frames aimed at the limits.
-const AIMED_SHARE: u64 = 17;
+const AIMED_SHARE: u64 = 15;
 /// Of a hundred lives, how many are of clocks that stand close to one another.
-const RIVALS_SHARE: u64 = 17;
+const RIVALS_SHARE: u64 = 15;
 /// Of a hundred lives, how many are at cables with a listener.
-const LISTENERS_SHARE: u64 = 22;
+const LISTENERS_SHARE: u64 = 23;
+/// Of a hundred lives, how many are of errorTimes about the ends of 32 bits.
+const ERRORS_SHARE: u64 = 12;
+
+/// A kind of life, which writes its lines.
+type Life = fn(&mut Pen);
 
 /// A taker of each line, its answer and the bridge after it.
 pub type Sink<'s> = &'s mut dyn FnMut(&[u8], &[u8], &Listed) -> io::Result<()>;
@@ -42,18 +50,27 @@ pub fn lives(lines: u64, seed: u64, sink: Sink) -> io::Result<()> {
     let mut pen = Pen::new(lines, Random::new(seed), sink);
     extras::wander(&mut pen);
     while !pen.done() {
-        let kind = pen.random.below(100);
-        if kind < NETWORK_SHARE {
-            network::live(&mut pen);
-        } else if kind < NETWORK_SHARE + AIMED_SHARE {
-            aimed::live(&mut pen);
-        } else if kind < NETWORK_SHARE + AIMED_SHARE + RIVALS_SHARE {
-            rivals::live(&mut pen);
-        } else if kind < NETWORK_SHARE + AIMED_SHARE + RIVALS_SHARE + LISTENERS_SHARE {
-            listeners::live(&mut pen);
-        } else {
-            extras::wander(&mut pen);
-        }
+        let live = kind_of_life(pen.random.below(100));
+        live(&mut pen);
     }
     pen.finish()
+}
+
+/// Gives the kind of life that a number below a hundred stands for, by the shares of the kinds.
+fn kind_of_life(chance: u64) -> Life {
+    let shares: [(u64, Life); 5] = [
+        (NETWORK_SHARE, network::live),
+        (AIMED_SHARE, aimed::live),
+        (RIVALS_SHARE, rivals::live),
+        (LISTENERS_SHARE, listeners::live),
+        (ERRORS_SHARE, errors::live),
+    ];
+    let mut before = 0;
+    for (share, live) in shares {
+        before += share;
+        if chance < before {
+            return live;
+        }
+    }
+    extras::wander
 }

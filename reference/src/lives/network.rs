@@ -9,14 +9,18 @@ use super::pen::Pen;
 use super::plans;
 use super::random::Random;
 use super::timestamps;
+use super::versions;
 use crate::answer::DONE;
 use crate::bridge::Plan;
-use crate::frame::Fields;
+use crate::frame::{Fields, Version};
 use crate::port::Heard;
 use crate::times::{next_count, parts, LOCAL_END, PART_END};
 
 /// How long a neighbour mostly keeps its echo, a quarter of a second.
 const ECHO_KEPT: i128 = 1 << 38;
+
+/// In a thousand neighbours, how many have errorTimes about the ends of 32 bits.
+const ERRING: u64 = 150;
 
 /// A grand master somewhere behind the neighbours.
 struct Master {
@@ -39,6 +43,10 @@ struct Neighbour {
     forgetful: bool,
     silent: u64,
     bridge_left: Option<u64>,
+    /// The version of its frames, or none where each has its own by chance.
+    version: Option<Version>,
+    /// Whether the errorTimes of its frames are about the ends of 32 bits.
+    erring: bool,
 }
 
 impl Neighbour {
@@ -50,6 +58,7 @@ impl Neighbour {
         }
         let master = &masters[self.master];
         let fields = Fields {
+            version: self.version.unwrap_or_else(|| versions::known(random)),
             sa: [2, 0, 0, 0, 1, self.hop],
             precedence: master.precedence,
             hop: self.hop,
@@ -58,7 +67,11 @@ impl Neighbour {
             local: self.clock.local(before + random.about(self.noise)),
             that_tx: self.echo.0,
             that_rx: self.echo.1,
-            error: random.about(1000) as i32,
+            error: if self.erring {
+                versions::about_end(random)
+            } else {
+                random.about(1000) as i32
+            },
         };
         self.departed = Some(now);
         self.count = next_count(self.count);
@@ -174,6 +187,8 @@ impl Network {
             forgetful: random.often(950),
             silent: 0,
             bridge_left: None,
+            version: random.pick(&[Some(Version::ONE), Some(Version::TWO), None]),
+            erring: random.often(ERRING),
         }
     }
 

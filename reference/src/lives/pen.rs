@@ -4,8 +4,8 @@ use super::random::Random;
 use super::spoil;
 use super::Sink;
 use crate::answer::{Answer, BAD_LINE};
-use crate::bridge::{Bridge, Listed, Plan, Profile};
-use crate::frame::{self, Fields, FRAME_LEN};
+use crate::bridge::{Bridge, Listed, Plan, Profile, PORTS_MOST};
+use crate::frame::{self, Fields, Version, FRAME_LEN};
 use crate::hex;
 use crate::program::Program;
 use crate::ptp::Scale;
@@ -16,6 +16,10 @@ use std::io;
 const SPOILED: u64 = 8;
 /// In a thousand setups, how many are led by a copy with one field changed.
 const SPOILED_SETUPS: u64 = 500;
+/// In a thousand setups with version 1 at every port, how many say every part.
+const SAID_IN_FULL: u64 = 200;
+/// In a thousand setups that say every part, how many are led by a copy with the versions or the profile changed.
+const SPOILED_PARTS: u64 = 400;
 /// In a thousand lines of timestamps and scales, how many more are led by a spoiled copy, since there are few of them.
 const SPOILED_TIMESTAMPS: u64 = 60;
 /// In a thousand lines with leap seconds, how many are led by a copy with these changed.
@@ -83,6 +87,11 @@ impl<'s> Pen<'s> {
     fn word(&mut self, word: &[u8]) {
         self.line.push(b' ');
         self.line.extend_from_slice(word);
+    }
+
+    /// Appends a yes or no.
+    fn flag(&mut self, flag: bool) {
+        self.word(if flag { b"1" } else { b"0" });
     }
 
     /// Appends a number, now and then with zeros before it.
@@ -194,25 +203,49 @@ impl<'s> Pen<'s> {
         self.hand_on()
     }
 
-    /// Writes a setup.
+    /// Writes a setup, with every part said where a port has another version than 1, and at times where none has.
     pub fn setup(&mut self, plan: &Plan) -> Answer {
-        self.letter(match plan.profile {
-            Profile::Full => b'S',
-            Profile::Listener => b'P',
-        });
-        self.number(u64::from(plan.ports));
-        self.bytes(&plan.mac);
-        self.precedence(plan.precedence);
-        self.word(if plan.capable { b"1" } else { b"0" });
-        self.number_or(plan.timeout, b"D");
-        self.number_or(plan.back, b"D");
-        for delay in plan.delays {
-            self.number_or(delay, b"M");
+        let usual = plan.versions == [Version::ONE; PORTS_MOST];
+        if usual && !self.random.often(SAID_IN_FULL) {
+            self.letter(match plan.profile {
+                Profile::Full => b'S',
+                Profile::Listener => b'P',
+            });
+            self.planned(plan);
+        } else {
+            self.letter(b'V');
+            self.flag(plan.profile == Profile::Listener);
+            self.planned(plan);
+            self.bytes(&plan.versions.map(|version| version.0));
+            self.lead_parts();
         }
         if self.random.often(SPOILED_SETUPS) {
             self.lead(spoil::setup);
         }
         self.play()
+    }
+
+    /// Hands on copies of a setup that says every part, with its versions or its profile changed, now and then.
+    fn lead_parts(&mut self) {
+        if self.random.often(SPOILED_PARTS) {
+            self.lead(spoil::versions_of_setup);
+        }
+        if self.random.often(SPOILED_PARTS) {
+            self.lead(spoil::profile_of_setup);
+        }
+    }
+
+    /// Appends the parts of a plan that every setup says.
+    fn planned(&mut self, plan: &Plan) {
+        self.number(u64::from(plan.ports));
+        self.bytes(&plan.mac);
+        self.precedence(plan.precedence);
+        self.flag(plan.capable);
+        self.number_or(plan.timeout, b"D");
+        self.number_or(plan.back, b"D");
+        for delay in plan.delays {
+            self.number_or(delay, b"M");
+        }
     }
 
     /// Writes a setting of links.
@@ -327,6 +360,7 @@ impl<'s> Pen<'s> {
         self.number(fields.that_tx);
         self.number(fields.that_rx);
         self.bytes(&fields.error.to_be_bytes());
+        self.number(u64::from(fields.version.0));
         self.number(length);
         self.play()
     }

@@ -1,6 +1,7 @@
 //! Setups, good ones and refused ones.
 
 use super::random::Random;
+use super::versions;
 use crate::bridge::{
     Plan, Profile, BACK_DEFAULT, BACK_MOST, LISTENER_BACK, LISTENER_PORTS, PORTS_MOST, TIMEOUTS,
 };
@@ -38,6 +39,7 @@ pub fn of_ports(random: &mut Random, ports: u8) -> Plan {
         capable: random.often(350),
         timeout: timeout(random),
         back: back(random),
+        versions: versions::of_ports(random, ports),
         ..Plan::default()
     };
     for byte in &mut plan.mac {
@@ -110,16 +112,17 @@ pub fn refused(random: &mut Random) -> Plan {
 
 /// Puts something of a plan just or far out of range.
 fn out_of_range(random: &mut Random, mut plan: Plan) -> Plan {
-    match random.below(6) {
+    match random.below(8) {
         0 => plan.ports = 0,
         1 => plan.ports = random.pick(&[9, 10, 255]),
         2 => plan.timeout = Some(random.pick(&[0, TIMEOUTS.start() - 1, LIKE_DEFAULT])),
         3 => plan.timeout = Some(random.pick(&[TIMEOUTS.end() + 1, u64::MAX])),
         4 => plan.back = Some(random.pick(&[BACK_MOST + 1, u64::MAX])),
-        _ => {
+        5 => {
             let place = random.below(PORTS_MOST as u64) % u64::from(plan.ports);
             plan.delays[place as usize] = Some(random.pick(&[DELAY_MOST + 1, u64::MAX]));
         }
+        _ => plan = versions::with_wrong_version(random, plan),
     }
     plan
 }

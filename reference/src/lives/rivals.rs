@@ -6,6 +6,7 @@ use super::panel;
 use super::pen::Pen;
 use super::plans;
 use super::random::Random;
+use super::versions;
 use crate::bridge::{Chosen, Plan, OWN};
 use crate::frame::{self, Fields};
 use crate::port::Announcement;
@@ -100,6 +101,7 @@ fn rival_frame(pen: &mut Pen, place: usize) -> Fields {
         None => (random.bits() as u8, 0),
     };
     let mut fields = Fields {
+        version: versions::known(random),
         sa: [2, 0, 0, 0, 2, place as u8],
         precedence,
         hop: hop_to_be_held(chosen_hop, held_hop),

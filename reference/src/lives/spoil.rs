@@ -1,13 +1,14 @@
 //! Ways in which lines and frames go wrong.
 
 use super::random::Random;
-use crate::frame::FRAME_LEN;
+use super::versions;
+use crate::frame::{AT_VERSION, FRAME_LEN};
 
-/// The places of a frame's bytes that must have one value, the version's place included.
-const FIXED_PLACES: [usize; 11] = [0, 1, 2, 3, 4, 5, 12, 13, 14, 15, 31];
-/// The version's place, and versions that are refused.
-const VERSION_PLACE: usize = 15;
-const WRONG_VERSIONS: [u8; 3] = [0, 2, 255];
+/// The places of a frame's bytes that must have one value.
+const FIXED_PLACES: [usize; 10] = [0, 1, 2, 3, 4, 5, 12, 13, 14, 31];
+/// The fields of a setup with every part said that say whether it is a listener's, and its versions.
+const PROFILE_FIELD: usize = 1;
+const VERSIONS_FIELD: usize = 16;
 /// How long the longest usual line of nonsense is.
 const NONSENSE_MOST: u64 = 600;
 /// How long a rare line of nonsense is.
@@ -15,7 +16,7 @@ const NONSENSE_LONG: u64 = 70_000;
 /// What a line may wrongly contain.
 const STRANGE: &[u8] = b"\0\t\r gGmM-dDxX0fF+.#\x0B\x7F\x80\xC3\xFF";
 /// The letters of the calls and some others.
-const LETTERS: &[u8] = b"SPLORACTDFWBslpxZEM1-XIGUNKkHh";
+const LETTERS: &[u8] = b"SPVLORACTDFWBslpvxZEM1-XIGUNKkHh";
 
 /// Spoils a line, though not always so that it loses its form.
 pub fn line(random: &mut Random, line: &mut Vec<u8>) {
@@ -72,6 +73,37 @@ pub fn setup(random: &mut Random, line: &mut Vec<u8>) {
     ];
     let place = random.pick(&[1, 2, 3, 4, 4, 4, 5, 5, 5, 6, 6, 7, 8, 11, 14, 14]);
     replace_field(line, place, random.pick(&words));
+}
+
+/// Changes the versions of a setup, often so that they are not eight bytes.
+pub fn versions_of_setup(random: &mut Random, line: &mut Vec<u8>) {
+    let words: [&[u8]; 18] = [
+        b"",
+        b"-",
+        b"1",
+        b"2",
+        b"02",
+        b"M",
+        b"D",
+        b"010101010101010",
+        b"01010101010101",
+        b"01010101010101010",
+        b"010101010101010101",
+        b"0g01010101010101",
+        b"01010101 01010101",
+        b"0202020202020202",
+        b"0101010101010101",
+        b"0000000000000000",
+        b"0303030303030303",
+        b"ffFFffFFffFFffFF",
+    ];
+    replace_field(line, VERSIONS_FIELD, random.pick(&words));
+}
+
+/// Changes what says whether a setup is a listener's.
+pub fn profile_of_setup(random: &mut Random, line: &mut Vec<u8>) {
+    let words: [&[u8]; 9] = [b"", b"-", b"0", b"1", b"2", b"00", b"01", b"D", b"M"];
+    replace_field(line, PROFILE_FIELD, random.pick(&words));
 }
 
 /// Changes the leap seconds of a line, mostly so that they are not two bytes.
@@ -220,7 +252,7 @@ pub fn nonsense(random: &mut Random, line: &mut Vec<u8>) {
 /// Spoils a frame, though not always so that it is refused.
 pub fn frame(random: &mut Random, bytes: &[u8; FRAME_LEN]) -> Vec<u8> {
     let mut spoiled = bytes.to_vec();
-    match random.below(9) {
+    match random.below(12) {
         0 => spoiled.truncate(random.below(FRAME_LEN as u64) as usize),
         1 => spoiled.truncate(FRAME_LEN - 1),
         2 => spoiled.push(random.bits() as u8),
@@ -229,12 +261,13 @@ pub fn frame(random: &mut Random, bytes: &[u8; FRAME_LEN]) -> Vec<u8> {
             let place = random.pick(&FIXED_PLACES);
             spoiled[place] = changed(random, spoiled[place]);
         }
-        6 => spoiled[VERSION_PLACE] = random.pick(&WRONG_VERSIONS),
-        7 => {
+        6..=8 => spoiled[AT_VERSION] = versions::wrong(random).0,
+        9 => {
             let place = random.pick(&FIXED_PLACES);
             spoiled[place] = changed(random, spoiled[place]);
-            spoiled[VERSION_PLACE] = random.pick(&WRONG_VERSIONS);
+            spoiled[AT_VERSION] = versions::wrong(random).0;
         }
+        10 => spoiled[AT_VERSION] = changed(random, spoiled[AT_VERSION]),
         _ => {
             let place = random.below(FRAME_LEN as u64) as usize;
             spoiled[place] = changed(random, spoiled[place]);

@@ -34,20 +34,20 @@ returns-5 c =
     let b = d .before .before in
     rw (le-leb _ _ (b .before .before .if1 .left), le-leb _ _ (b .if2 .left), le-leb _ _ (d .if3 .left), le-leb _ _ (e .if4 .left), le-ltb _ _ (c .if5 .taken))
 
-delays-fit-requires : tie.Need-delays-fit-requires
-delays-fit-requires c κs = search needs
+ports-fit-requires : tie.Need-ports-fit-requires
+ports-fit-requires c κs = search needs
 
 returns-6 : tie.Need-returns-6
 unfolding rangesFit
 returns-6 c =
-    let f = c .before .before in
+    let f = c .before .before .before in
     let e = f .before .before in
     let d = e .before .before in
     let b = d .before .before in
     rw (le-leb _ _ (b .before .before .if1 .left), le-leb _ _ (b .if2 .left), le-leb _ _ (d .if3 .left), le-leb _ _ (e .if4 .left), lt-ltb _ _ (f .if5 .left))
-    (c .delays-fit .ensures)
+    (c .ports-fit .ensures)
 
 pub ranges-fit-spec : {M : Type 1} → statement M
 ranges-fit-spec =
     tie.close
-    (tie.spec returns returns-2 returns-3 returns-4 returns-5 delays-fit-requires returns-6)
+    (tie.spec returns returns-2 returns-3 returns-4 returns-5 ports-fit-requires returns-6)

@@ -1,7 +1,7 @@
 -- By the refusals over numbers; else by what the port sends for the chosen clock, which is the first of the ranking.
 use borrow.Author.Needs.{needs}
 use native.Mathlib.Omega.{arith}
-use mathlib.Core.Path.{_≡_, sym, ap, _∙_, subst}
+use mathlib.Core.Path.{_≡_, refl, sym, ap, _∙_, subst}
 use mathlib.Core.Logic.{⊎-elim}
 use Prim.Native.Nat.{ℕ, _-_, _<_, _≤_}
 use lib.ListN.{length}
@@ -57,7 +57,7 @@ given c = c .before .before
 
 -- where the samples were found
 abbrev found : tie.After-send → tie.Joined2
-found d = d .before .before .before .before
+found d = d .before .before .before .before .before
 
 -- the samples are those of that number
 picked : (c : tie.Joined2) → let b = start (given (c .before)) .args .b in c .if2 .samples ≡ samplesAt (numberOf (given (c .before) .«candidate-at» .result)) (b .clock) (b .ports)
@@ -70,9 +70,13 @@ picked c =
     (c .if2 .came)
     ∙ ap (λ (k : ℕ). samplesAt k (b .clock) (b .ports)) (n .number .ensures)
 
+-- the port has a version
+version-in : tie.Need-array-read-send
+version-in c = index (given (c .before .before .before .before))
+
 send-requires : tie.Need-send-requires
 send-requires c κs =
-    let j = c .before .before .before in
+    let j = c .before .before .before .before in
     let s = start (given (j .before)) in
     (subst LawfulSamples (sym (picked j)) (samples-lawful _ (s .args .b .clock) (s .args .b .ports) (s .pre .clock-lawful) (s .pre .ports-lawful)), (s .pre .setup-lawful .back-small, ready (given (j .before)) .1))
 
@@ -86,7 +90,7 @@ sent c =
     let a = s .args in
     let i = a .port - 1 in
     let e = k .before .send-refusal .ensures in
-    let same = sending-chosen (a .b) i (record { 0 = a .t }) _ _ (chosen o) (picked j) in
+    let same = sending-chosen (a .b) i (record { 0 = a .t }) _ _ _ (chosen o) (picked j) refl in
     let done = d .send .ensures .0 ∙ ap (λ (x : Sending). sendingDone x (portAt (a .b .ports) i)) same in
     let announced = ap (λ (x : PortDone). x .port .announcement) done ∙ sent-used (portAt (a .b .ports) i) .announcement in
     send-out _ _ _ (a .out .now) _ _
@@ -116,6 +120,7 @@ send-spec =
     (λ c. search needs)
     (λ c. search needs)
     (λ c. index (given (c .before)))
+    version-in
     send-requires
     (λ c. search needs)
     (λ c. index (given (found (c .before .before .before) .before)))

@@ -11,14 +11,15 @@ use Rattle.bridge.proofs.PromiseLaws.{out}
 use Rattle.bridge_setup.proofs.setup.Statement.{statement}
 use Rattle.bridge_setup.proofs.setup.Tie as tie
 
--- there are eight settings, by what the last field of a setup is
+-- there are eight settings, by what the field of a setup is
 eight : (c : tie.Start) → length (c .args .given .settings) ≡ 8
-eight c = sym (length-map (c .args .given .settings) _) ∙ c .good .0 .1 .1 .1 .1 .1 .1 .1 .0 .1 .0 .1
+eight c = sym (length-map (c .args .given .settings) _) ∙ c .good .0 .1 .1 .1 .1 .1 .1 .1 .1 .0 .1 .0 .1
 
 -- and what the types of the other fields say
 typed : (c : tie.Start) → TypedSetup (c .args .given)
 typed c = record {
   settings-all = eight c;
+  versions-all = search needs;
   address = search needs;
   own-fits = search needs;
 }

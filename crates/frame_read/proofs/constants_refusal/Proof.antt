@@ -1,5 +1,5 @@
 -- The tests answer one by one, in the order of the definition.
-use mathlib.Core.Path.{refl}
+use mathlib.Core.Path.{refl, sym, _∙_}
 use borrow.Author.Tests.{eq-eqb, ne-eqb}
 use borrow.Author.Needs.{needs}
 use Rattle.frame.proofs.FrameLaws.{past, stopped}
@@ -39,24 +39,28 @@ returns-4 c =
     (past _ 5 (eq-eqb _ _ (c .before .if3 .left))
     (stopped _ 5 _ (ne-eqb _ _ (c .if4 .taken)))))
 
-array-read-if5 : tie.Need-array-read-if5
-array-read-if5 c = search needs
+array-read-is-version : tie.Need-array-read-is-version
+array-read-is-version c = search needs
 
 returns-5 : tie.Need-returns-5
 returns-5 c =
-    past _ 5 (eq-eqb _ _ (c .before .before .before .before .if1 .left))
-    (past _ 5 (eq-eqb _ _ (c .before .before .before .if2 .left))
-    (past _ 5 (eq-eqb _ _ (c .before .before .if3 .left))
-    (past _ 5 (eq-eqb _ _ (c .before .if4 .left))
-    (stopped _ 6 _ (ne-eqb _ _ (c .if5 .taken))))))
+    let v = c .before in
+    let e = v .before in
+    past _ 5 (eq-eqb _ _ (e .before .before .before .if1 .left))
+    (past _ 5 (eq-eqb _ _ (e .before .before .if2 .left))
+    (past _ 5 (eq-eqb _ _ (e .before .if3 .left))
+    (past _ 5 (eq-eqb _ _ (e .if4 .left))
+    (past _ 6 (sym (v .is-version .ensures) ∙ c .if5 .taken) refl))))
 
 returns-6 : tie.Need-returns-6
 returns-6 c =
-    past _ 5 (eq-eqb _ _ (c .before .before .before .before .if1 .left))
-    (past _ 5 (eq-eqb _ _ (c .before .before .before .if2 .left))
-    (past _ 5 (eq-eqb _ _ (c .before .before .if3 .left))
-    (past _ 5 (eq-eqb _ _ (c .before .if4 .left))
-    (past _ 6 (eq-eqb _ _ (c .if5 .left)) refl))))
+    let v = c .before in
+    let e = v .before in
+    past _ 5 (eq-eqb _ _ (e .before .before .before .if1 .left))
+    (past _ 5 (eq-eqb _ _ (e .before .before .if2 .left))
+    (past _ 5 (eq-eqb _ _ (e .before .if3 .left))
+    (past _ 5 (eq-eqb _ _ (e .if4 .left))
+    (stopped _ 6 _ (sym (v .is-version .ensures) ∙ c .if5 .left)))))
 
 pub constants-refusal-spec : {M : Type 1} → statement M
 constants-refusal-spec =
@@ -70,6 +74,7 @@ constants-refusal-spec =
     returns-3
     array-read-if4
     returns-4
-    array-read-if5
+    array-read-is-version
+    (λ c κs. search needs)
     returns-5
     returns-6)

@@ -46,6 +46,12 @@ array-read-t35 c = search needs
 cast-t36 : tie.Need-cast-t36
 cast-t36 c = record { fits = held-at widths (c .before .before .args .t1) 23 (c .before .before .pre) (lit< tt) }
 
+array-read-t40 : tie.Need-array-read-t40
+array-read-t40 c = search needs
+
+cast-t41 : tie.Need-cast-t41
+cast-t41 c = record { fits = held-at widths (c .before .before .args .t1) 9 (c .before .before .pre) (lit< tt) }
+
 returns : tie.Need-returns
 returns c =
     let vs = c .before .before .args .t1 in
@@ -59,6 +65,7 @@ returns c =
       tx = record { 0 = getD vs 21 0 };
       rx = record { 0 = getD vs 22 0 };
       error = record { 0 = getD vs 23 0 };
+      version = getD vs 9 0;
     }
 
 pub fields-spec : {M : Type 1} → statement M
@@ -78,4 +85,6 @@ fields-spec =
     array-read-t31
     array-read-t35
     cast-t36
+    array-read-t40
+    cast-t41
     returns)

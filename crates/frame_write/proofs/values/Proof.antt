@@ -43,6 +43,9 @@ cast-t13 c = omega (arith, c .struct-known12 .given)
 cast-t14 : tie.Need-cast-t14
 cast-t14 c = omega (arith, c .struct-known13 .given)
 
+cast-t15 : tie.Need-cast-t15
+cast-t15 c = omega (arith, c .struct-known14 .given)
+
 returns : tie.Need-returns
 returns c = search needs
 
@@ -63,4 +66,5 @@ values-spec =
     cast-t12
     cast-t13
     cast-t14
+    cast-t15
     returns)

@@ -1,6 +1,8 @@
 -- The tests answer one by one, in the order of the definition.
-use mathlib.Core.Path.{refl}
+use mathlib.Core.Path.{refl, sym, _∙_}
+use native.Mathlib.Omega.{arith}
 use borrow.Author.Tests.{lt-ltb, le-ltb, le-leb, lt-leb}
+use borrow.Author.Needs.{needs}
 use Rattle.frame.specs.Write.{writeRefusal}
 use Rattle.frame.proofs.FrameLaws.{past, stopped}
 use Rattle.frame_write.proofs.write_refusal.Statement.{statement}
@@ -58,16 +60,35 @@ returns-6 c =
     (past _ 2 (lt-ltb _ _ (c .before .if5 .left))
     (stopped _ 4 _ (lt-leb _ _ (c .if6 .taken)))))))
 
+cast-is-version : tie.Need-cast-is-version
+cast-is-version c = omega (arith, c .struct-known6 .given)
+
 returns-7 : tie.Need-returns-7
 unfolding writeRefusal
 returns-7 c =
-    past _ 2 (lt-ltb _ _ (first (c .before .before .before .before .before) .if1 .left))
-    (past _ 2 (lt-ltb _ _ (second (c .before .before .before) .if2 .left))
-    (past _ 2 (lt-ltb _ _ (c .before .before .before .before .before .if3 .left))
-    (past _ 2 (lt-ltb _ _ (c .before .before .before .if4 .left))
-    (past _ 2 (lt-ltb _ _ (c .before .if5 .left))
-    (past _ 4 (le-leb _ _ (c .if6 .left)) refl)))))
+    let v = c .before in
+    let room = v .before .before in
+    past _ 2 (lt-ltb _ _ (first (room .before .before .before .before .before) .if1 .left))
+    (past _ 2 (lt-ltb _ _ (second (room .before .before .before) .if2 .left))
+    (past _ 2 (lt-ltb _ _ (room .before .before .before .before .before .if3 .left))
+    (past _ 2 (lt-ltb _ _ (room .before .before .before .if4 .left))
+    (past _ 2 (lt-ltb _ _ (room .before .if5 .left))
+    (past _ 4 (le-leb _ _ (room .if6 .left))
+    (past _ 6 (sym (v .is-version .ensures) ∙ c .if7 .taken) refl))))))
+
+returns-8 : tie.Need-returns-8
+unfolding writeRefusal
+returns-8 c =
+    let v = c .before in
+    let room = v .before .before in
+    past _ 2 (lt-ltb _ _ (first (room .before .before .before .before .before) .if1 .left))
+    (past _ 2 (lt-ltb _ _ (second (room .before .before .before) .if2 .left))
+    (past _ 2 (lt-ltb _ _ (room .before .before .before .before .before .if3 .left))
+    (past _ 2 (lt-ltb _ _ (room .before .before .before .if4 .left))
+    (past _ 2 (lt-ltb _ _ (room .before .if5 .left))
+    (past _ 4 (le-leb _ _ (room .if6 .left))
+    (stopped _ 6 _ (sym (v .is-version .ensures) ∙ c .if7 .left)))))))
 
 pub write-refusal-spec : {M : Type 1} → statement M
 write-refusal-spec =
-    tie.close (tie.spec returns returns-2 returns-3 returns-4 returns-5 returns-6 returns-7)
+    tie.close (tie.spec returns returns-2 returns-3 returns-4 returns-5 returns-6 cast-is-version (λ c κs. search needs) returns-7 returns-8)

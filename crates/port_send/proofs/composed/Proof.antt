@@ -8,10 +8,10 @@ use Rattle.port_send.proofs.composed.Statement.{statement}
 use Rattle.port_send.proofs.composed.Tie as tie
 
 returns : tie.Need-returns
-returns c = c .for-clock .ensures ∙ send-as _ _ _ _ _ Full (c .before .enum-told .given .1)
+returns c = c .for-clock .ensures ∙ send-as _ _ _ _ _ _ Full (c .before .enum-told .given .1)
 
 returns-2 : tie.Need-returns-2
-returns-2 c = ap Frame (c .for-neighbour .ensures) ∙ send-as _ _ _ _ _ Listener (c .before .enum-told2 .given .1)
+returns-2 c = ap Frame (c .for-neighbour .ensures) ∙ send-as _ _ _ _ _ _ Listener (c .before .enum-told2 .given .1)
 
 pub composed-spec : {M : Type 1} → statement M
 composed-spec =

@@ -10,7 +10,7 @@ returns : tie.Need-returns
 returns c =
     let w = c .before in
     let a = w .before .args in
-    c .fields .ensures ∙ ap (λ (p : Precedence). frameOf (a .sender) p listenerHop (a .t) noGrandTime noErrorTime (a .port)) (w .worst-precedence .ensures)
+    c .fields .ensures ∙ ap (λ (p : Precedence). frameOf (a .sender) (a .version) p listenerHop (a .t) noGrandTime noErrorTime (a .port)) (w .worst-precedence .ensures)
 
 pub for-neighbour-spec : {M : Type 1} → statement M
 for-neighbour-spec = tie.close (tie.spec (λ c κs. search needs) (λ c κs. search needs) returns)

@@ -7,12 +7,13 @@ use Rattle.replay_frames.proofs.frame_fields.Tie as tie
 returns : tie.Need-returns
 unfolding fieldsIn
 returns c =
-    let t = c .before .before .before .before .before in
+    let e = c .before in
+    let t = e .before .before .before .before .before in
     let b = t .before in
     let y = b .before in
     let p = y .before in
     let m = p .before in
-    rw (m .mac .ensures, p .precedence .ensures, y .byte .ensures, b .byte2 .ensures, c .error .ensures)
+    rw (m .mac .ensures, p .precedence .ensures, y .byte .ensures, b .byte2 .ensures, e .error .ensures, c .byte3 .ensures)
 
 pub frame-fields-spec : {M : Type 1} → statement M
 frame-fields-spec =
@@ -27,5 +28,6 @@ frame-fields-spec =
     (λ c. search needs)
     (λ c. search needs)
     (λ c. search needs)
+    (λ c κs. search needs)
     (λ c κs. search needs)
     returns)

@@ -30,4 +30,5 @@ values-spec =
     (λ c. search needs)
     (λ c. search needs)
     (λ c. omega (arith, start (address (c .before .before .before)) .good))
+    (λ c. omega (arith, c .struct-known14 .given))
     (λ c. search needs))

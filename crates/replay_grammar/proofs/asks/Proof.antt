@@ -15,11 +15,11 @@ letter : (c : tie.Else1) →
 letter c = asks-letter _ (omega (arith, c .if1 .left))
 
 -- none of the letters
-rest : tie.Need-returns-9
+rest : tie.Need-returns-10
 unfolding asksBy
 rest c =
     let n = c .match .rest in
-    rw (ne-eqb _ _ (n .0 .0 .0 .0 .0 .0 .1), ne-eqb _ _ (n .0 .0 .0 .0 .0 .1), ne-eqb _ _ (n .0 .0 .0 .0 .1), ne-eqb _ _ (n .0 .0 .0 .1), ne-eqb _ _ (n .0 .0 .1), ne-eqb _ _ (n .0 .1), ne-eqb _ _ (n .1)) at (letter (c .before .before))
+    rw (ne-eqb _ _ (n .0 .0 .0 .0 .0 .0 .0 .1), ne-eqb _ _ (n .0 .0 .0 .0 .0 .0 .1), ne-eqb _ _ (n .0 .0 .0 .0 .0 .1), ne-eqb _ _ (n .0 .0 .0 .0 .1), ne-eqb _ _ (n .0 .0 .0 .1), ne-eqb _ _ (n .0 .0 .1), ne-eqb _ _ (n .0 .1), ne-eqb _ _ (n .1)) at (letter (c .before .before))
 
 pub asks-spec : {M : Type 1} → statement M
 unfolding asksBy asks
@@ -35,4 +35,5 @@ asks-spec =
     (λ c. ap asksBy (sym (c .match .keys5)) ∙ letter (c .before .before))
     (λ c. ap asksBy (sym (c .match .keys6)) ∙ letter (c .before .before))
     (λ c. ap asksBy (sym (c .match .keys7)) ∙ letter (c .before .before))
+    (λ c. ap asksBy (sym (c .match .keys8)) ∙ letter (c .before .before))
     rest)

@@ -1,37 +1,29 @@
--- The parts of the setup, one by one.
-use mathlib.Core.Path.{_≡_, ap, _∙_}
-use Prim.Native.Nat.{ℕ}
-use Rattle.forms.specs.Value.{flagIn, numberOr}
-use Rattle.forms.specs.declared.Form.{Form}
-use Rattle.replay_setup.specs.Argument.{setupIn}
+-- By the letter.
 use borrow.Author.Needs.{needs}
+use mathlib.Core.Path.{_≡_, ap, _∙_}
+use borrow.Author.Tests.{ne-eqb}
+use Rattle.bridge.specs.Fits.{firstVersions}
+use Rattle.replay_setup.specs.Argument.{firstField, behindListener, profileBy, setupFrom, setupIn}
 use Rattle.replay_setup.proofs.given.Statement.{statement}
 use Rattle.replay_setup.proofs.given.Tie as tie
-
--- a number by a default that a function gives
-defaulted : (form : Form) (field : ℕ) {n given default : ℕ} → given ≡ default → n ≡ numberOr given form field → n ≡ numberOr default form field
-defaulted form field q e = e ∙ ap (λ (d : ℕ). numberOr d form field) q
 
 returns : tie.Need-returns
 unfolding setupIn
 returns c =
-    let t = c .before in
-    let d = t .before in
-    let p = d .before .before in
-    let u = p .before in
-    let k = u .before in
-    let m = k .before in
-    let q = m .before in
-    let b = q .before in
-    let form = b .before .before .args .t2 in
-    λ i. record {
-      n = b .byte .ensures i;
-      sender = record { profile = q .profile .ensures i; mac = m .mac .ensures i; back = defaulted form 5 (k .default-back .ensures) (u .number-or .ensures) i };
-      own = p .precedence .ensures i;
-      capable = flagIn form 3;
-      timeout = defaulted form 4 (d .default-timeout .ensures) (t .number-or2 .ensures) i;
-      settings = c .settings .ensures i;
-    }
+    let v = c .before in
+    let p = v .before in
+    let f = p .before in
+    let m = f .before .before in
+    rw (m .match .keys1)
+    (c .from .ensures ∙ (λ i. setupFrom (m .before .args .form) behindListener ((p .profile .ensures ∙ ap profileBy (f .flag .ensures)) i) (v .versions .ensures i)))
+
+returns-2 : tie.Need-returns-2
+unfolding setupIn
+returns-2 c =
+    let p = c .before in
+    let m = p .before in
+    rw (ne-eqb _ _ (m .match .rest .1))
+    (c .from2 .ensures ∙ (λ i. setupFrom (m .before .args .form) firstField (p .profile2 .ensures i) firstVersions))
 
 pub given-spec : {M : Type 1} → statement M
 given-spec =
@@ -43,8 +35,5 @@ given-spec =
     (λ c κs. search needs)
     (λ c κs. search needs)
     (λ c κs. search needs)
-    (λ c. search needs)
-    (λ c κs. search needs)
-    (λ c κs. search needs)
-    (λ c κs. search needs)
-    returns)
+    returns
+    returns-2)

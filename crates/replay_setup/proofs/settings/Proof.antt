@@ -1,4 +1,4 @@
--- Field by field.
+-- Port by port.
 use mathlib.Core.List.{[], _∷_}
 use Rattle.replay_setup.specs.Argument.{settingsIn}
 use borrow.Author.Needs.{needs}
@@ -22,11 +22,18 @@ settings-spec =
     tie.close
     (tie.spec
     (λ c κs. search needs)
+    (λ c. search needs)
     (λ c κs. search needs)
+    (λ c. search needs)
     (λ c κs. search needs)
+    (λ c. search needs)
     (λ c κs. search needs)
+    (λ c. search needs)
     (λ c κs. search needs)
+    (λ c. search needs)
     (λ c κs. search needs)
+    (λ c. search needs)
     (λ c κs. search needs)
+    (λ c. search needs)
     (λ c κs. search needs)
     returns)
