@@ -3,6 +3,7 @@
 -- bytes of errorTime, less that sample's errorTime, lie less than `departureBound` units from that line at t itself; in version 1 errorTime is that sample's.
 use mathlib.Core.Path.{_≡_, sym, ap, _∙_, subst}
 use mathlib.Core.List.{List}
+use mathlib.Core.Logic.{inl, inr, ⊎-elim}
 use Prim.Native.Nat.{ℕ, _-_}
 use lib.IntN.{ℤ, pos, _+ℤ_, _-ℤ_}
 use lib.ListN.{length, drop}
@@ -21,10 +22,11 @@ use Rattle.bridge.specs.Demands.{grandStart, grandBytes, OnLine, version
 use Rattle.bridge.specs.declared.Bridge.{Bridge}
 use Rattle.timeline.proofs.SentLaws.{sent-near}
 use Rattle.timeline.proofs.Departures.{sent-heard, sent-made-up, sent-departs}
+use Rattle.frame.proofs.FrameLaws.{version-cases}
 use Rattle.frame.proofs.Trip.{grand-bytes, error-bytes}
 use Rattle.port.proofs.PortLaws.{ReadOff, sending-read-off}
 use Rattle.bridge.proofs.TableLaws.{chosen-lawful}
-use Rattle.bridge.proofs.Sent.{Wrote, wrote, sent-frame-version}
+use Rattle.bridge.proofs.Sent.{Wrote, wrote, version-known, sent-frame-version}
 
 -- the samples of the chosen clock are lawful
 samples-sent : (b : Bridge) → Lawful b → LawfulSamples (chosenSamples b)
@@ -72,12 +74,18 @@ module _ (b : Bridge) (port t : ℕ) (out : List ℕ) (lawful : Lawful b) (full 
   sent-frame-error =
       let w = wrote b port t out sent in
       let r = wrote-read-off w full in
+      let version = sent-frame-version b port t out lawful sent in
       record {
         older = r .oldest;
         newer = r .newest;
         kept = r .kept;
-        first = λ e. error-written w r ∙ sent-heard (chosenSamples b) (record { 0 = t }) (b .setup .sender .back) _ (w .fields .grand) (w .fields .error) r (samples-sent b lawful) (rest-in firstVersion e);
-        second = λ e. signed-written w r ∙ sent-made-up (chosenSamples b) (record { 0 = t }) (b .setup .sender .back) _ (w .fields .grand) (w .fields .error) r (samples-sent b lawful) (rest-in secondVersion e);
+        says =
+            ⊎-elim
+            (λ v. let e = version ∙ v in
+            inl (e, error-written w r ∙ sent-heard (chosenSamples b) (record { 0 = t }) (b .setup .sender .back) _ (w .fields .grand) (w .fields .error) r (samples-sent b lawful) (rest-in firstVersion e)))
+            (λ v. let e = version ∙ v in
+            inr (e, signed-written w r ∙ sent-made-up (chosenSamples b) (record { 0 = t }) (b .setup .sender .back) _ (w .fields .grand) (w .fields .error) r (samples-sent b lawful) (rest-in secondVersion e)))
+            (version-cases (versionAt b (port - 1)) (version-known b port t lawful (w .ready .0)));
       }
 
   -- THE LINE AT THE DEPARTURE ITSELF, by a frame of version 2

@@ -145,13 +145,14 @@ errorBytes = 4
 abbrev pub errorIn : List ℕ → ℤ
 errorIn bytes = errorOf (record { 0 = numberAt bytes errorStart errorBytes })
 
--- the errorTime in these bytes is the newest kept sample's, and, in version 2, floor(rate × backTime / 2^35) besides
+-- the version in these bytes is 1, and the errorTime the newest kept sample's, bit for bit; or it is 2, and errorTime that and floor(rate × backTime / 2^35)
 pub record ErrorSent (b : Bridge) (bytes : List ℕ) : Type 0 where
   pub older : Sample
   pub newer : Sample
   pub kept : endsOf (chosenSamples b) ≡ Both older newer
-  pub first : versionIn bytes ≡ 1 → numberAt bytes errorStart errorBytes ≡ newer .error .0
-  pub second : versionIn bytes ≡ 2 → errorIn bytes ≡ errorOf (newer .error) +ℤ scaledOf (rateBetween older newer) (pos (b .setup .sender .back))
+  pub says :
+      ((versionIn bytes ≡ 1) × (numberAt bytes errorStart errorBytes ≡ newer .error .0))
+      ⊎ ((versionIn bytes ≡ 2) × (errorIn bytes ≡ errorOf (newer .error) +ℤ scaledOf (rateBetween older newer) (pos (b .setup .sender .back))))
 
 -- grandTime and errorTime in these bytes, less the newest kept sample's errorTime, lie near the line read at the departure itself: there is no backTime in it
 pub record AtDeparture (b : Bridge) (t : ℕ) (bytes : List ℕ) : Type 0 where

@@ -14,7 +14,7 @@ use Rattle.choice.specs.Hop.{lastHop}
 use Rattle.times.specs.Times.{second, circle}
 use Rattle.choice.specs.Precedence.{keyOf}
 use Rattle.choice.specs.declared.Precedence.{Precedence}
-use Rattle.frame.specs.Frame.{frameLength, stationAddress, localExperimental, timeSync, isVersion, fieldsOf}
+use Rattle.frame.specs.Frame.{frameLength, stationAddress, localExperimental, timeSync, firstVersion, secondVersion, isVersion, fieldsOf}
 use Rattle.frame.specs.Read.{rowsOf, constantsRefusal, readRefusal, readAs, readOf, readNo, readFields}
 use Rattle.frame.specs.Values.{bytesRefusal, fieldsAt}
 use Rattle.frame.specs.Write.{writeRefusal, bytesOf, writtenAs, writtenOf}
@@ -51,14 +51,18 @@ unless-is P false p q = p
 
 -- ---- the version
 
--- there is none beyond a byte
-pub version-small : (version : ℕ) → isVersion version ≡ true → version < 256
-version-small version e = by (eqb version 1) refl (eqb version 2) refl e
+-- it is the first or the second
+pub version-cases : (version : ℕ) → isVersion version ≡ true → (version ≡ firstVersion) ⊎ (version ≡ secondVersion)
+version-cases version e = by (eqb version firstVersion) refl (eqb version secondVersion) refl e
   where
-    by : (x : Bool) → eqb version 1 ≡ x → (y : Bool) → eqb version 2 ≡ y → (x || y) ≡ true → version < 256
-    by true p y q e = omega (arith, eqb-true version 1 p)
-    by false p true q e = omega (arith, eqb-true version 2 q)
+    by : (x : Bool) → eqb version firstVersion ≡ x → (y : Bool) → eqb version secondVersion ≡ y → (x || y) ≡ true → (version ≡ firstVersion) ⊎ (version ≡ secondVersion)
+    by true p y q e = inl (eqb-true version firstVersion p)
+    by false p true q e = inr (eqb-true version secondVersion q)
     by false p false q e = absurd (false≢true e)
+
+-- so there is none beyond a byte
+pub version-small : (version : ℕ) → isVersion version ≡ true → version < 256
+version-small version e = ⊎-elim (λ p. omega (arith, p)) (λ p. omega (arith, p)) (version-cases version e)
 
 -- ---- read
 

@@ -14,7 +14,7 @@ use Rattle.choice.specs.Hop.{lastHop, hopOf}
 use Rattle.times.specs.declared.LocalTime.{LocalTime}
 use Rattle.times.specs.declared.GrandTime.{GrandTime}
 use Rattle.times.specs.declared.ErrorTime.{ErrorTime}
-use Rattle.samples.specs.Keep.{keptOf, LawfulSamples}
+use Rattle.samples.specs.Keep.{keptOf}
 use Rattle.samples.specs.Rate.{neighbourRateOf}
 use Rattle.samples.specs.declared.Samples.{Samples}
 use Rattle.samples.specs.declared.Pair.{Pair}

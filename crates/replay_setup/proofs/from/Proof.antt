@@ -1,6 +1,6 @@
 -- The parts of the setup, one by one.
 use borrow.Author.Needs.{needs}
-use mathlib.Core.Path.{_≡_, ap, _∙_}
+use mathlib.Core.Path.{ap, _∙_}
 use Prim.Native.Nat.{ℕ, _+_}
 use Rattle.forms.specs.Value.{numberOr}
 use Rattle.replay_setup.specs.Argument.{timeoutBehind, backBehind, setupFrom}

@@ -1,6 +1,6 @@
 -- By the letter.
 use borrow.Author.Needs.{needs}
-use mathlib.Core.Path.{_≡_, ap, _∙_}
+use mathlib.Core.Path.{ap, _∙_}
 use borrow.Author.Tests.{ne-eqb}
 use Rattle.bridge.specs.Fits.{firstVersions}
 use Rattle.replay_setup.specs.Argument.{firstField, behindListener, profileBy, setupFrom, setupIn}
