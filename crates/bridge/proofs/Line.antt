@@ -13,7 +13,7 @@ use Rattle.timeline.specs.Sent.{reachOf}
 use Rattle.timeline.specs.Line.{bound, departureBound, NearLine}
 use Rattle.samples.specs.Keep.{LawfulSamples}
 use Rattle.frame.specs.Frame.{frameLength, firstVersion, secondVersion}
-use Rattle.port.specs.Send.{restOf}
+use Rattle.port.specs.Send.{stretchOf}
 use Rattle.bridge.specs.Table.{portAt}
 use Rattle.bridge.specs.State.{versionAt, Lawful, FullBridge}
 use Rattle.bridge.specs.Chosen.{chosenOf}
@@ -21,7 +21,7 @@ use Rattle.bridge.specs.Send.{chosenSamples, sendingAt, sendOf, sendByte
 use Rattle.bridge.specs.Demands.{grandStart, grandBytes, OnLine, versionIn, errorStart, errorBytes, errorIn, ErrorSent, AtDeparture}
 use Rattle.bridge.specs.declared.Bridge.{Bridge}
 use Rattle.timeline.proofs.SentLaws.{sent-near}
-use Rattle.timeline.proofs.Departures.{sent-heard, sent-made-up, sent-departs}
+use Rattle.timeline.proofs.Departures.{sent-heard, sent-with-rest, sent-departs}
 use Rattle.frame.proofs.FrameLaws.{version-cases}
 use Rattle.frame.proofs.Trip.{grand-bytes, error-bytes}
 use Rattle.port.proofs.PortLaws.{ReadOff, sending-read-off}
@@ -34,7 +34,7 @@ samples-sent b h = chosen-lawful (chosenOf b) (b .clock) (b .ports) (h .clock-la
 
 -- the grand time and errorTime of a frame that was written are read off the chosen clock's samples
 wrote-read-off : {b : Bridge} {port t : ℕ} {out left : List ℕ} (w : Wrote b port t out left) → FullBridge b
-    → ReadOff (chosenSamples b) (record { 0 = t }) (b .setup .sender .back) (restOf (versionAt b (port - 1)) (b .setup .sender .back)) (w .fields)
+    → ReadOff (chosenSamples b) (record { 0 = t }) (b .setup .sender .back) (stretchOf (versionAt b (port - 1)) (b .setup .sender .back)) (w .fields)
 unfolding sendingAt
 wrote-read-off {b} {port} {t} w full =
     sending-read-off (chosenOf b) (chosenSamples b) (b .setup .sender) (versionAt b (port - 1)) (record { 0 = t }) (portAt (b .ports) (port - 1)) (w .fields) (w .sending) full
@@ -65,9 +65,9 @@ module _ (b : Bridge) (port t : ℕ) (out : List ℕ) (lawful : Lawful b) (full 
             (sent-near (chosenSamples b) (record { 0 = t }) (b .setup .sender .back) _ (w .fields .grand) (w .fields .error) r (samples-sent b lawful) (lawful .setup-lawful .back-small));
       }
 
-  -- the version in the frame is the port's, and decides what errorTime makes up for
-  rest-in : (version : ℕ) → versionIn (sendBytes b port t out) ≡ version → restOf (versionAt b (port - 1)) (b .setup .sender .back) ≡ restOf version (b .setup .sender .back)
-  rest-in version e = ap (λ (v : ℕ). restOf v (b .setup .sender .back)) (sym (sent-frame-version b port t out lawful sent) ∙ e)
+  -- the version in the frame is the port's, and decides which rest errorTime takes in
+  stretch-in : (version : ℕ) → versionIn (sendBytes b port t out) ≡ version → stretchOf (versionAt b (port - 1)) (b .setup .sender .back) ≡ stretchOf version (b .setup .sender .back)
+  stretch-in version e = ap (λ (v : ℕ). stretchOf v (b .setup .sender .back)) (sym (sent-frame-version b port t out lawful sent) ∙ e)
 
   -- WHAT ERRORTIME IS, by the version in the frame
   pub sent-frame-error : ErrorSent b (sendBytes b port t out)
@@ -82,9 +82,9 @@ module _ (b : Bridge) (port t : ℕ) (out : List ℕ) (lawful : Lawful b) (full 
         says =
             ⊎-elim
             (λ v. let e = version ∙ v in
-            inl (e, error-written w r ∙ sent-heard (chosenSamples b) (record { 0 = t }) (b .setup .sender .back) _ (w .fields .grand) (w .fields .error) r (samples-sent b lawful) (rest-in firstVersion e)))
+            inl (e, error-written w r ∙ sent-heard (chosenSamples b) (record { 0 = t }) (b .setup .sender .back) _ (w .fields .grand) (w .fields .error) r (samples-sent b lawful) (stretch-in firstVersion e)))
             (λ v. let e = version ∙ v in
-            inr (e, signed-written w r ∙ sent-made-up (chosenSamples b) (record { 0 = t }) (b .setup .sender .back) _ (w .fields .grand) (w .fields .error) r (samples-sent b lawful) (rest-in secondVersion e)))
+            inr (e, signed-written w r ∙ sent-with-rest (chosenSamples b) (record { 0 = t }) (b .setup .sender .back) _ (w .fields .grand) (w .fields .error) r (samples-sent b lawful) (stretch-in secondVersion e)))
             (version-cases (versionAt b (port - 1)) (version-known b port t lawful (w .ready .0)));
       }
 
@@ -100,5 +100,5 @@ module _ (b : Bridge) (port t : ℕ) (out : List ℕ) (lawful : Lawful b) (full 
         near =
             subst (λ (z : ℤ). NearLine departureBound (r .oldest) (r .newest) z (pos (sinceOf (record { 0 = t }) (r .newest .local))) 0)
             (λ i. pos (sym (grand-written w r) i) +ℤ sym (signed-written w r) i -ℤ errorOf (r .newest .error))
-            (sent-departs (chosenSamples b) (record { 0 = t }) (b .setup .sender .back) _ (w .fields .grand) (w .fields .error) r (samples-sent b lawful) (rest-in secondVersion e) (lawful .setup-lawful .back-small));
+            (sent-departs (chosenSamples b) (record { 0 = t }) (b .setup .sender .back) _ (w .fields .grand) (w .fields .error) r (samples-sent b lawful) (stretch-in secondVersion e) (lawful .setup-lawful .back-small));
       }

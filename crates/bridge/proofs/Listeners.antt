@@ -22,7 +22,7 @@ use Rattle.choice.specs.declared.Candidate.the-variants.{Clock}
 use Rattle.frame.specs.Frame.{frameLength}
 use Rattle.frame.specs.declared.Fields.{Fields}
 use Rattle.frame.specs.declared.Reading.the-variants as Readings
-use Rattle.port.specs.Send.{restOf, sendingBy, clockSending, sendingNo, listenerHop}
+use Rattle.port.specs.Send.{stretchOf, sendingBy, clockSending, sendingNo, listenerHop}
 use Rattle.port.specs.declared.Profile.the-variants.{Full, Listener}
 use Rattle.port.specs.declared.Port.{Port}
 use Rattle.port.specs.declared.Sending.the-variants.{Refused}
@@ -194,5 +194,5 @@ listeners-few s cs i port t room {p} {h} full below heard chosen clear =
     for-clock : clockSending (chosenOf b) (chosenSamples b) (b .setup .sender) (versionAt b (port - 1)) (record { 0 = t }) held ≡ Refused 11
     for-clock =
         ap (λ (c : Candidate). clockSending c (chosenSamples b) (b .setup .sender) (versionAt b (port - 1)) (record { 0 = t }) held) chosen
-        ∙ ap (λ (e : Ends). sendingBy (sentThrough e (record { 0 = t }) (b .setup .sender .back) (restOf (versionAt b (port - 1)) (b .setup .sender .back))) (b .setup .sender) (versionAt b (port - 1)) p h (record { 0 = t }) held)
+        ∙ ap (λ (e : Ends). sendingBy (sentThrough e (record { 0 = t }) (b .setup .sender .back) (stretchOf (versionAt b (port - 1)) (b .setup .sender .back))) (b .setup .sender) (versionAt b (port - 1)) p h (record { 0 = t }) held)
         (listeners-no-line s cs i below heard chosen)

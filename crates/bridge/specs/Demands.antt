@@ -40,7 +40,7 @@ use Rattle.frame.specs.declared.Reading.{Reading}
 use Rattle.frame.specs.declared.Reading.the-variants.{Frame}
 use Rattle.port.specs.Record.{usedPort}
 use Rattle.port.specs.Receive.{notedPort}
-use Rattle.port.specs.Send.{frameOf, restOf, listenerHop, noGrandTime, noErrorTime}
+use Rattle.port.specs.Send.{frameOf, stretchOf, listenerHop, noGrandTime, noErrorTime}
 use Rattle.port.specs.declared.Preceding.the-variants.{Was}
 use Rattle.bridge.specs.Table.{portAt, losesLink, samplesAt, candidatesOf}
 use Rattle.bridge.specs.Arguments.{sendRefusal, maskBeyond}
@@ -171,7 +171,7 @@ pub record SentFields (b : Bridge) (port t : ℕ) (sent : List ℕ) : Type 0 whe
   pub grand : GrandTime
   pub error : ErrorTime
   pub chosen : chosenOf b ≡ Clock precedence hop number
-  pub time : sentOf (chosenSamples b) (record { 0 = t }) (b .setup .sender .back) (restOf (versionAt b (port - 1)) (b .setup .sender .back)) ≡ At grand error
+  pub time : sentOf (chosenSamples b) (record { 0 = t }) (b .setup .sender .back) (stretchOf (versionAt b (port - 1)) (b .setup .sender .back)) ≡ At grand error
   pub read : readOf sent ≡ Frame (frameOf (b .setup .sender) (versionAt b (port - 1)) precedence hop (record { 0 = t }) grand error (portAt (b .ports) (port - 1)))
 
 -- ---- drift

@@ -37,7 +37,7 @@ use Rattle.choice.specs.declared.Candidate.the-variants.{Nothing, Clock}
 use Rattle.frame.specs.declared.Fields.{Fields}
 use Rattle.port.specs.Own.{ownReadingBy, ownReadingOf}
 use Rattle.port.specs.Receive.{delayedBy, followedBy, countedBy, receivedOf}
-use Rattle.port.specs.Send.{restOf, sendingBy, clockSending, profileSending, sendingOf, sendingNo}
+use Rattle.port.specs.Send.{stretchOf, sendingBy, clockSending, profileSending, sendingOf, sendingNo}
 use Rattle.port.specs.Order.{NotNext, TooLong, MeasuredTooLong, DelayTooLong, frameConditions, readingConditions, TooLate, BeyondEnd, BeyondBits, ErrorBeyond, departureConditions}
 use Rattle.port.specs.declared.Setting.{Setting}
 use Rattle.port.specs.declared.Profile.{Profile}
@@ -52,7 +52,7 @@ use Rattle.port.specs.declared.ClockDone.{ClockDone}
 use Rattle.refusals.proofs.Order.{same-number, Tells, Fails, less-fails, most-fails, same-tells, same-fails, both-tell, either-fails, fails-same, first-if, first-else}
 use Rattle.samples.proofs.KeepLaws.{few-ends, both-ends, ends-lawful}
 use Rattle.times.proofs.ErrorLaws.{error-back}
-use Rattle.timeline.proofs.SentLaws.{no-rest, sent-units}
+use Rattle.timeline.proofs.SentLaws.{no-stretch, sent-units}
 
 -- ---- a frame
 
@@ -130,7 +130,7 @@ bits-fail (negsuc n) = record {
 
 -- 13 by errorTime, in version 2 alone
 error-order : (version : ℕ) (g : GrandTime) (a b : Sample) (back : ℕ) → b .error .0 < 2 ^ 32
-    → First (sentNo (sentAs (Moments.At g) (errorTimeOf (sentError a b (restOf version back))))) (given 13 (ErrorBeyond version (Both a b) back) ∷ [])
+    → First (sentNo (sentAs (Moments.At g) (errorTimeOf (sentError a b (stretchOf version back))))) (given 13 (ErrorBeyond version (Both a b) back) ∷ [])
 unfolding sentError errorTimeOf
 error-order version g a b back h = by (eqb version 2) refl
   where
@@ -141,7 +141,7 @@ error-order version g a b back h = by (eqb version 2) refl
         (fails-same (λ out. (eqb-true version 2 e, out)) (λ (both : ErrorBeyond version (Both a b) back). both .1) (bits-fail (errorBy (rateBetween a b) b back)))
         (λ _. nowhere refl)
     by false e =
-        same-number (ap (λ (x : ErrorWithin). sentNo (sentAs (Moments.At g) x)) (error-back (b .error) h ∙ ap errorTimeOf (sym (no-rest (rateBetween a b) b))))
+        same-number (ap (λ (x : ErrorWithin). sentNo (sentAs (Moments.At g) x)) (error-back (b .error) h ∙ ap errorTimeOf (sym (no-stretch (rateBetween a b) b))))
         (later _ _ (λ (both : ErrorBeyond version (Both a b) back). eqb-false version 2 e (both .0)) (nowhere refl))
 
 -- 13 by the sent time, which is never below zero, and then by errorTime
@@ -153,20 +153,20 @@ moment-order (negsuc n) x s rest = absurd (omega (arith, ap natAbs s))
 
 -- 11, then 12, then 13
 sent-order : (samples : Samples) (version : ℕ) (t : LocalTime) (back : ℕ) → LawfulSamples samples → back < longestElapsed
-    → First (sentNo (sentOf samples t back (restOf version back)))
+    → First (sentNo (sentOf samples t back (stretchOf version back)))
     (given 11 (howMany samples < 2) ∷ given 12 (TooLate (endsOf samples) t) ∷ given 13 (BeyondEnd (endsOf samples) t back) ∷ given 13 (ErrorBeyond version (endsOf samples) back) ∷ [])
 unfolding sentOf
 sent-order samples version t back w l = by (endsOf samples) refl
   where
     by : (ends : Ends) → endsOf samples ≡ ends
-        → First (sentNo (sentThrough ends t back (restOf version back)))
+        → First (sentNo (sentThrough ends t back (stretchOf version back)))
         (given 11 (howMany samples < 2) ∷ given 12 (TooLate ends t) ∷ given 13 (BeyondEnd ends t back) ∷ given 13 (ErrorBeyond version ends back) ∷ [])
     by TooFew q = here _ _ (few-ends samples q) refl
     by (Both a b) q =
         let ends = ends-lawful samples a b w q in
         later _ _ (both-ends samples a b q)
         (first-else sentNo (less-fails (sinceOf t (b .local)) (2 ^ 39))
-        (λ e. moment-order (sentTime a b (sinceOf t (b .local)) back) (errorTimeOf (sentError a b (restOf version back)))
+        (λ e. moment-order (sentTime a b (sinceOf t (b .local)) back) (errorTimeOf (sentError a b (stretchOf version back)))
         (sent-units a b (sinceOf t (b .local)) back (ltb-true _ _ e) l ends)
         (λ g. error-order version g a b back (ends .newest .error))))
 
@@ -183,7 +183,7 @@ clock-order : (choice : Candidate) (samples : Samples) (sender : Sender) (versio
 clock-order Nothing samples sender version t port w l = here _ _ refl refl
 clock-order (Clock p h n) samples sender version t port w l =
     later _ _ (λ (e : Clock p h n ≡ Nothing). let z : _≡_ {A = ℕ} 0 1 = cc in omega arith)
-    (same-number (sending-number (sentOf samples t (sender .back) (restOf version (sender .back))) sender version p h t port) (sent-order samples version t (sender .back) w l))
+    (same-number (sending-number (sentOf samples t (sender .back) (stretchOf version (sender .back))) sender version p h t port) (sent-order samples version t (sender .back) w l))
 
 -- from a listener none of them
 pub departure-order : (choice : Candidate) (samples : Samples) (sender : Sender) (version : ℕ) (t : LocalTime) (port : Port) → LawfulSamples samples → sender .back < longestElapsed

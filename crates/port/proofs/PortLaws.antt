@@ -41,7 +41,7 @@ use Rattle.port.specs.Record.{silenced, tooOld, agedPort, emptyPort, use
 use Rattle.port.specs.Lawful.{LawfulPreceding, LawfulAnnouncement, LawfulPair, LawfulPort, LawfulClock, LawfulMac, FieldsInRange}
 use Rattle.port.specs.Own.{storedAs, ownSample, ownReadingBy, ownReadingOf}
 use Rattle.port.specs.Receive.{sampleOf, sameClock, takenPort, refusedBy, delayedBy, followedBy, countedBy, receivedOf}
-use Rattle.port.specs.Send.{echoTx, echoRx, frameOf, restOf, sendingBy, clockSending, listenerHop, noGrandTime, noErrorTime, listenerFrame, profileSending, sendingOf, sendingNo, sendingDone}
+use Rattle.port.specs.Send.{echoTx, echoRx, frameOf, stretchOf, sendingBy, clockSending, listenerHop, noGrandTime, noErrorTime, listenerFrame, profileSending, sendingOf, sendingNo, sendingDone}
 use Rattle.port.specs.declared.Setting.{Setting}
 use Rattle.port.specs.declared.Profile.{Profile}
 use Rattle.port.specs.declared.Profile.the-variants.{Full, Listener}
@@ -177,23 +177,23 @@ own-reading-is count grand at clock P refuse take = go (clock .preceding) refl
 
 -- ---- sending
 
--- what errorTime makes up for, by the version
-pub rest-second : (version back : ℕ) → version ≡ secondVersion → back ≡ restOf version back
-rest-second version back e = if-true _ _ _ (eq-eqb _ _ e)
+-- the stretch whose rest errorTime takes in, by the version
+pub stretch-second : (version back : ℕ) → version ≡ secondVersion → back ≡ stretchOf version back
+stretch-second version back e = if-true _ _ _ (eq-eqb _ _ e)
 
-pub rest-other : (version back : ℕ) → (version ≡ secondVersion → ⊥) → 0 ≡ restOf version back
-rest-other version back e = if-false _ _ _ (ne-eqb _ _ e)
+pub stretch-other : (version back : ℕ) → (version ≡ secondVersion → ⊥) → 0 ≡ stretchOf version back
+stretch-other version back e = if-false _ _ _ (ne-eqb _ _ e)
 
 -- it is within the bounds of backTime
-pub rest-small : (version back : ℕ) → back < longestElapsed → restOf version back < longestElapsed
-rest-small version back h = if-when (λ (n : ℕ). n < longestElapsed) (eqb version secondVersion) (λ _. h) (λ _. lit< tt)
+pub stretch-small : (version back : ℕ) → back < longestElapsed → stretchOf version back < longestElapsed
+stretch-small version back h = if-when (λ (n : ℕ). n < longestElapsed) (eqb version secondVersion) (λ _. h) (λ _. lit< tt)
 
 module _ (choice : Candidate) (samples : Samples) (sender : Sender) (version : ℕ) (t : LocalTime) (port : Port) where
   -- a full bridge's, by the choice
   pub send-none : choice ≡ Nothing → Refused 10 ≡ clockSending choice samples sender version t port
   send-none e = ap (λ (x : Candidate). clockSending x samples sender version t port) (sym e)
 
-  pub send-by : {p : Precedence} {h n : ℕ} {s : Sent} → choice ≡ Clock p h n → s ≡ sentOf samples t (sender .back) (restOf version (sender .back))
+  pub send-by : {p : Precedence} {h n : ℕ} {s : Sent} → choice ≡ Clock p h n → s ≡ sentOf samples t (sender .back) (stretchOf version (sender .back))
       → sendingBy s sender version p h t port ≡ clockSending choice samples sender version t port
   send-by {p} {h} {n} e g =
       ap (λ (x : Sent). sendingBy x sender version p h t port) g ∙ ap (λ (x : Candidate). clockSending x samples sender version t port) (sym e)
@@ -214,14 +214,14 @@ module _ (choice : Candidate) (samples : Samples) (sender : Sender) (version : �
 
   -- what holds of a full bridge's refusal with 10 to 13, of its frame for the chosen clock, and of a listener's frame, holds of what is sent
   pub sending-is : (P : Sending → Type 0) → ((k : ℕ) → sender .profile ≡ Full → 10 ≤ k → k ≤ 13 → P (Refused k))
-      → ((p : Precedence) (h n : ℕ) (g : GrandTime) (x : ErrorTime) → sender .profile ≡ Full → choice ≡ Clock p h n → sentOf samples t (sender .back) (restOf version (sender .back)) ≡ At g x
+      → ((p : Precedence) (h n : ℕ) (g : GrandTime) (x : ErrorTime) → sender .profile ≡ Full → choice ≡ Clock p h n → sentOf samples t (sender .back) (stretchOf version (sender .back)) ≡ At g x
       → P (Frame (frameOf sender version p h t g x port)))
       → (sender .profile ≡ Listener → P (Frame (listenerFrame sender version t port)))
       → P (sendingOf choice samples sender version t port)
   unfolding sendingOf
   sending-is P refuse send listen = of (sender .profile) refl
     where
-      by : (s : Sent) → sentOf samples t (sender .back) (restOf version (sender .back)) ≡ s → sender .profile ≡ Full → (p : Precedence) (h n : ℕ) → choice ≡ Clock p h n
+      by : (s : Sent) → sentOf samples t (sender .back) (stretchOf version (sender .back)) ≡ s → sender .profile ≡ Full → (p : Precedence) (h n : ℕ) → choice ≡ Clock p h n
           → P (sendingBy s sender version p h t port)
       by (At g x) q f p h n e = send p h n g x f e q
       by Few q f p h n e = refuse 11 f (omega arith) (omega arith)
@@ -230,7 +230,7 @@ module _ (choice : Candidate) (samples : Samples) (sender : Sender) (version : �
 
       chosen : (c : Candidate) → choice ≡ c → sender .profile ≡ Full → P (clockSending c samples sender version t port)
       chosen Nothing e f = refuse 10 f (omega arith) (omega arith)
-      chosen (Clock p h n) e f = by (sentOf samples t (sender .back) (restOf version (sender .back))) refl f p h n e
+      chosen (Clock p h n) e f = by (sentOf samples t (sender .back) (stretchOf version (sender .back))) refl f p h n e
 
       of : (profile : Profile) → sender .profile ≡ profile → P (profileSending profile choice samples sender version t port)
       of Full f = chosen choice refl f
@@ -244,7 +244,7 @@ pub record SentFor (choice : Candidate) (samples : Samples) (sender : Sender) (v
   pub grand : GrandTime
   pub error : ErrorTime
   pub chosen : choice ≡ Clock precedence hop number
-  pub sent : sentOf samples t (sender .back) (restOf version (sender .back)) ≡ At grand error
+  pub sent : sentOf samples t (sender .back) (stretchOf version (sender .back)) ≡ At grand error
   pub same : frameOf sender version precedence hop t grand error port ≡ f
 
 -- a grand time and an errorTime that are read off two samples
@@ -295,7 +295,7 @@ module _ (choice : Candidate) (samples : Samples) (sender : Sender) (version : �
   module _ (f : Fields) (framed : sendingOf choice samples sender version t port ≡ Frame f) where
     -- what holds of a full bridge's frame for the chosen clock, and of a listener's, holds of a frame that is sent
     sending-framed : (P : Fields → Type 0)
-        → ((p : Precedence) (h n : ℕ) (g : GrandTime) (x : ErrorTime) → sender .profile ≡ Full → choice ≡ Clock p h n → sentOf samples t (sender .back) (restOf version (sender .back)) ≡ At g x
+        → ((p : Precedence) (h n : ℕ) (g : GrandTime) (x : ErrorTime) → sender .profile ≡ Full → choice ≡ Clock p h n → sentOf samples t (sender .back) (stretchOf version (sender .back)) ≡ At g x
         → P (frameOf sender version p h t g x port))
         → (sender .profile ≡ Listener → P (listenerFrame sender version t port)) → P f
     sending-framed P send listen =
@@ -313,10 +313,10 @@ module _ (choice : Candidate) (samples : Samples) (sender : Sender) (version : �
         (λ l. let both = sym full ∙ l in let z : _≡_ {A = ℕ} 0 1 = cc in absurd (omega arith))
 
     -- its grand time and errorTime are read off the samples
-    pub sending-read-off : sender .profile ≡ Full → ReadOff samples t (sender .back) (restOf version (sender .back)) f
+    pub sending-read-off : sender .profile ≡ Full → ReadOff samples t (sender .back) (stretchOf version (sender .back)) f
     sending-read-off full =
         let s = sending-for full in
-        subst (ReadOff samples t (sender .back) (restOf version (sender .back))) (s .same) (departure samples t (sender .back) (restOf version (sender .back)) (s .grand) (s .error) (s .sent))
+        subst (ReadOff samples t (sender .back) (stretchOf version (sender .back))) (s .same) (departure samples t (sender .back) (stretchOf version (sender .back)) (s .grand) (s .error) (s .sent))
 
     -- a listener's is the one that it always sends
     pub sending-listens : sender .profile ≡ Listener → f ≡ listenerFrame sender version t port
@@ -335,7 +335,7 @@ module _ (choice : Candidate) (samples : Samples) (sender : Sender) (version : �
     pub sending-written : isVersion version ≡ true → (room : ℕ) → t .0 < circle → LawfulPort port → frameLength ≤ room → writeRefusal f room ≡ 0
     sending-written known room ht l r =
         sending-framed (λ (f : Fields). writeRefusal f room ≡ 0)
-        (λ p h n g x _ _ q. frame-written sender version t port p h g x l known (departure samples t (sender .back) (restOf version (sender .back)) g x q .range) ht room r)
+        (λ p h n g x _ _ q. frame-written sender version t port p h g x l known (departure samples t (sender .back) (stretchOf version (sender .back)) g x q .range) ht room r)
         (λ _. frame-written sender version t port worstPrecedence listenerHop noGrandTime noErrorTime l known (record { seconds = lit< tt; fraction = lit< tt }) ht room r)
 
     pub sending-typed : isVersion version ≡ true → LawfulMac (sender .mac) → CandidateFits choice → LawfulPort port → Typed f
@@ -343,7 +343,7 @@ module _ (choice : Candidate) (samples : Samples) (sender : Sender) (version : �
         sending-framed Typed
         (λ p h n g x _ c q.
         let v = subst CandidateFits c fits in
-        frame-typed sender version t port p h g x l known mac (v .0) (v .1) (departure samples t (sender .back) (restOf version (sender .back)) g x q .bits))
+        frame-typed sender version t port p h g x l known mac (v .0) (v .1) (departure samples t (sender .back) (stretchOf version (sender .back)) g x q .bits))
         (λ _. frame-typed sender version t port worstPrecedence listenerHop noGrandTime noErrorTime l known mac worst-fits (lit< tt) (lit< tt))
 
 -- ---- the fields of a frame that was read

@@ -55,9 +55,9 @@ frameOf sender version precedence hop t grand error port = record {
   version = version;
 }
 
--- what errorTime makes up for: backTime in version 2, and nothing in version 1
-abbrev pub restOf : ℕ → ℕ → ℕ
-restOf version back = cond (eqb version secondVersion) back 0
+-- the stretch whose rest errorTime takes in: backTime in version 2, and none in version 1
+abbrev pub stretchOf : ℕ → ℕ → ℕ
+stretchOf version back = cond (eqb version secondVersion) back 0
 
 -- 11 to 13 by the sent grand time and errorTime
 abbrev pub sendingBy : Sent → Sender → ℕ → Precedence → ℕ → LocalTime → Port → Sending
@@ -70,7 +70,7 @@ sendingBy Beyond sender version precedence hop t port = Refused (sentNo Beyond)
 abbrev pub clockSending : Candidate → Samples → Sender → ℕ → LocalTime → Port → Sending
 clockSending Nothing samples sender version t port = Refused noClock
 clockSending (Clock precedence hop number) samples sender version t port =
-    sendingBy (sentOf samples t (sender .back) (restOf version (sender .back))) sender version precedence hop t port
+    sendingBy (sentOf samples t (sender .back) (stretchOf version (sender .back))) sender version precedence hop t port
 
 -- a listener's frame, whatever is chosen: the worst precedence, the hop before the last, and zero for both times
 abbrev pub listenerHop : ℕ

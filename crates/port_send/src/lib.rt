@@ -6,7 +6,7 @@ ghost use Rattle.samples.specs.Keep.{LawfulSamples};
 ghost use Rattle.timeline.specs.Sent.{longestElapsed};
 ghost use Rattle.frame.specs.Frame.{frameLength};
 ghost use Rattle.choice.specs.Precedence.{worstPrecedence};
-ghost use Rattle.port.specs.Send.{echoTx, echoRx, frameOf, restOf, clockSending, listenerFrame, sendingOf, sendingDone, sendingBytes};
+ghost use Rattle.port.specs.Send.{echoTx, echoRx, frameOf, stretchOf, clockSending, listenerFrame, sendingOf, sendingDone, sendingBytes};
 use choice::Candidate;
 use choice::Precedence;
 use frame::Fields;
@@ -77,9 +77,9 @@ fn fields(
     }
 }
 
-// What errorTime makes up for: backTime in version 2, and nothing in version 1.
-fn rest(version: u8, back: u64) -> u64
-    ensures { λ r. ⌜ r ≡ restOf version back ⌝ }
+// The stretch whose rest errorTime takes in: backTime in version 2, and none in version 1.
+fn stretch(version: u8, back: u64) -> u64
+    ensures { λ r. ⌜ r ≡ stretchOf version back ⌝ }
 {
     if version == version::SECOND_VERSION {
         back
@@ -104,8 +104,8 @@ fn for_clock(
     match choice {
         Candidate::Nothing => Sending::Refused(refusals::NO_CLOCK),
         Candidate::Clock(precedence, hop, _) => {
-            let rest = rest(version, sender.back);
-            match departure::sent(samples, t, sender.back, rest) {
+            let stretch = stretch(version, sender.back);
+            match departure::sent(samples, t, sender.back, stretch) {
                 Sent::At(grand, error) => {
                     Sending::Frame(fields(sender, version, precedence, hop, t, grand, error, port))
                 }

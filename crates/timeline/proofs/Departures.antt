@@ -1,5 +1,5 @@
--- Grand time and errorTime together: where backTime is made up for, they lie less than `departureBound` units from the line at the departure itself, and no
--- smaller number would do; where nothing is, errorTime is the newest sample's, bit for bit.
+-- Grand time and errorTime together: with the rest of backTime in errorTime they lie less than `departureBound` units from the line at the departure itself, and no
+-- smaller number would do; without it errorTime is the newest sample's, bit for bit.
 use mathlib.Core.Path.{_≡_, sym, ap, _∙_, subst}
 use Prim.Native.Nat.{ℕ, _+_, _-_, _*_, _^_, _<_, _≤_}
 use native.Mathlib.Omega.{arith}
@@ -22,7 +22,7 @@ use Rattle.times.proofs.ErrorLaws.{error-bits}
 use Rattle.samples.proofs.RateLaws.{scaled-near}
 use Rattle.samples.proofs.KeepLaws.{ends-lawful}
 use Rattle.timeline.proofs.Bound.{sample, correction-near, line-error}
-use Rattle.timeline.proofs.SentLaws.{Departure, sent-formula, no-rest}
+use Rattle.timeline.proofs.SentLaws.{Departure, sent-formula, no-stretch}
 
 -- ---- the line at the departure itself
 
@@ -92,26 +92,26 @@ departure-least k within =
 
 -- ---- what a frame carries
 
-module _ (samples : Samples) (t : LocalTime) (back rest : ℕ) (g : GrandTime) (e : ErrorTime) (d : Departure samples t back rest g e) (lawful : LawfulSamples samples) where
+module _ (samples : Samples) (t : LocalTime) (back stretch : ℕ) (g : GrandTime) (e : ErrorTime) (d : Departure samples t back stretch g e) (lawful : LawfulSamples samples) where
   abbrev ends : LawfulEnds (d .oldest) (d .newest)
   ends = ends-lawful samples (d .oldest) (d .newest) lawful (d .kept)
 
-  -- where nothing is made up for, errorTime is the newest sample's, bit for bit
-  pub sent-heard : rest ≡ 0 → e .0 ≡ d .newest .error .0
+  -- without the rest errorTime is the newest sample's, bit for bit
+  pub sent-heard : stretch ≡ 0 → e .0 ≡ d .newest .error .0
   unfolding sentError
   sent-heard none =
       let rate = rateBetween (d .oldest) (d .newest) in
       sym (error-bits e (d .bits))
-      ∙ ap (ofZ w32) (d .error ∙ ap (errorBy rate (d .newest)) none ∙ no-rest rate (d .newest))
+      ∙ ap (ofZ w32) (d .error ∙ ap (errorBy rate (d .newest)) none ∙ no-stretch rate (d .newest))
       ∙ error-bits (d .newest .error) (ends .newest .error)
 
-  -- where backTime is, it is that and what the rate makes of backTime
-  pub sent-made-up : rest ≡ back → errorOf e ≡ errorOf (d .newest .error) +ℤ scaledOf (rateBetween (d .oldest) (d .newest)) (pos back)
+  -- with it, that and what the rate makes of backTime
+  pub sent-with-rest : stretch ≡ back → errorOf e ≡ errorOf (d .newest .error) +ℤ scaledOf (rateBetween (d .oldest) (d .newest)) (pos back)
   unfolding sentError
-  sent-made-up all = d .error ∙ ap (errorBy (rateBetween (d .oldest) (d .newest)) (d .newest)) all
+  sent-with-rest all = d .error ∙ ap (errorBy (rateBetween (d .oldest) (d .newest)) (d .newest)) all
 
   -- and both times together tell the line at the departure itself
-  pub sent-departs : rest ≡ back → back < longestElapsed
+  pub sent-departs : stretch ≡ back → back < longestElapsed
       → NearLine departureBound (d .oldest) (d .newest) (pos (units g) +ℤ errorOf e -ℤ errorOf (d .newest .error)) (pos (sinceOf t (d .newest .local))) 0
   sent-departs all hb =
       subst (λ (z : ℤ). NearLine departureBound (d .oldest) (d .newest) z (pos (sinceOf t (d .newest .local))) 0)

@@ -89,62 +89,62 @@ module _ (a b : Sample) (elapsed back : ℕ) where
 
 -- ---- errorTime
 
--- nothing is made up for where there is no rest
-pub no-rest : (rate : ℤ) (b : Sample) → errorBy rate b 0 ≡ errorOf (b .error)
-no-rest rate b = ap (λ (z : ℤ). errorOf (b .error) +ℤ z) (scaled-none rate) ∙ +ℤ-idr (errorOf (b .error))
+-- over no stretch there is no rest
+pub no-stretch : (rate : ℤ) (b : Sample) → errorBy rate b 0 ≡ errorOf (b .error)
+no-stretch rate b = ap (λ (z : ℤ). errorOf (b .error) +ℤ z) (scaled-none rate) ∙ +ℤ-idr (errorOf (b .error))
 
 -- both parts of it together are small
-pub error-small : (rate : ℤ) (b : Sample) (rest : ℕ) → natAbs rate ≤ steepest → rest < longestElapsed → natAbs (errorOf (b .error)) + natAbs (scaledOf rate (pos rest)) < 2 ^ 63
-error-small rate b rest hr h = omega (arith, error-size (b .error), scaled-small rate (pos rest) hr (omega arith))
+pub error-small : (rate : ℤ) (b : Sample) (stretch : ℕ) → natAbs rate ≤ steepest → stretch < longestElapsed → natAbs (errorOf (b .error)) + natAbs (scaledOf rate (pos stretch)) < 2 ^ 63
+error-small rate b stretch hr h = omega (arith, error-size (b .error), scaled-small rate (pos stretch) hr (omega arith))
 
 -- ---- what a frame carries, case by case
 
-module _ (samples : Samples) (t : LocalTime) (back rest : ℕ) where
-  pub sent-through : {e : Ends} → e ≡ endsOf samples → sentThrough e t back rest ≡ sentOf samples t back rest
+module _ (samples : Samples) (t : LocalTime) (back stretch : ℕ) where
+  pub sent-through : {e : Ends} → e ≡ endsOf samples → sentThrough e t back stretch ≡ sentOf samples t back stretch
   unfolding sentOf
-  sent-through e = ap (λ (x : Ends). sentThrough x t back rest) e
+  sent-through e = ap (λ (x : Ends). sentThrough x t back stretch) e
 
-  pub sent-late : {a b : Sample} → Both a b ≡ endsOf samples → longestElapsed ≤ sinceOf t (b .local) → Late ≡ sentOf samples t back rest
+  pub sent-late : {a b : Sample} → Both a b ≡ endsOf samples → longestElapsed ≤ sinceOf t (b .local) → Late ≡ sentOf samples t back stretch
   sent-late e h = if-false _ _ _ (le-ltb _ _ h) ∙ sent-through e
 
   pub sent-as : {a b : Sample} {m : Moment} {x : ErrorWithin} → Both a b ≡ endsOf samples → sinceOf t (b .local) < longestElapsed
-      → m ≡ momentOf (sentTime a b (sinceOf t (b .local)) back) → x ≡ errorTimeOf (sentError a b rest) → sentAs m x ≡ sentOf samples t back rest
+      → m ≡ momentOf (sentTime a b (sinceOf t (b .local)) back) → x ≡ errorTimeOf (sentError a b stretch) → sentAs m x ≡ sentOf samples t back stretch
   sent-as e h k l = (λ i. sentAs (k i) (l i)) ∙ if-true _ _ _ (lt-ltb _ _ h) ∙ sent-through e
 
   -- neither fits in a frame: the sent time is at the end of grand time or below zero, or errorTime leaves its bits
   abbrev pub Unfit : Sample → Sample → Type 0
-  Unfit a b = ((n : ℕ) → sentTime a b (sinceOf t (b .local)) back ≡ pos n → grandEnd ≤ n) ⊎ (errorEnd ≤ mag (sentError a b rest))
+  Unfit a b = ((n : ℕ) → sentTime a b (sinceOf t (b .local)) back ≡ pos n → grandEnd ≤ n) ⊎ (errorEnd ≤ mag (sentError a b stretch))
 
   -- what holds in each case holds of what a frame carries
   pub sent-is : (P : Sent → Type 0) → P Few → P Late
       → ((a b : Sample) (g : GrandTime) (e : ErrorTime) → endsOf samples ≡ Both a b → sinceOf t (b .local) < longestElapsed
-      → InRange g → pos (units g) ≡ sentTime a b (sinceOf t (b .local)) back → e .0 < 2 ^ 32 → errorOf e ≡ sentError a b rest → P (At g e))
+      → InRange g → pos (units g) ≡ sentTime a b (sinceOf t (b .local)) back → e .0 < 2 ^ 32 → errorOf e ≡ sentError a b stretch → P (At g e))
       → ((a b : Sample) → endsOf samples ≡ Both a b → sinceOf t (b .local) < longestElapsed → Unfit a b → P Beyond)
-      → P (sentOf samples t back rest)
+      → P (sentOf samples t back stretch)
   unfolding sentOf
   sent-is P few late at beyond = by (endsOf samples) refl
     where
-      by : (e : Ends) → endsOf samples ≡ e → P (sentThrough e t back rest)
+      by : (e : Ends) → endsOf samples ≡ e → P (sentThrough e t back stretch)
       by TooFew k = few
       by (Both a b) k =
           if-when P (ltb (sinceOf t (b .local)) longestElapsed)
           (λ q.
           let l = ltb-true _ _ q in
           let z = sentTime a b (sinceOf t (b .local)) back in
-          let y = sentError a b rest in
+          let y = sentError a b stretch in
           moment-is (λ (m : Moment). P (sentAs m (errorTimeOf y))) z
           (λ g r u. error-is (λ (x : ErrorWithin). P (sentAs (Moments.At g) x)) y (λ e s v. at a b g e k l r u s v) (λ out. beyond a b k l (inr out)))
           (λ end. beyond a b k l (inl end)))
           (λ _. late)
 
   -- 13 is answered only where the sent time reaches the end of grand time, for the part below zero never occurs, or where errorTime leaves its bits
-  pub sent-beyond : LawfulSamples samples → back < longestElapsed → sentOf samples t back rest ≡ Beyond
+  pub sent-beyond : LawfulSamples samples → back < longestElapsed → sentOf samples t back stretch ≡ Beyond
       → (a : Sample) × (b : Sample) × (endsOf samples ≡ Both a b)
-      × ((grandEnd ≤ atLeastZero (sentTime a b (sinceOf t (b .local)) back)) ⊎ (errorEnd ≤ mag (sentError a b rest)))
+      × ((grandEnd ≤ atLeastZero (sentTime a b (sinceOf t (b .local)) back)) ⊎ (errorEnd ≤ mag (sentError a b stretch)))
   sent-beyond w hb =
       sent-is
       (λ (s : Sent). s ≡ Beyond → (a : Sample) × (b : Sample) × (endsOf samples ≡ Both a b)
-      × ((grandEnd ≤ atLeastZero (sentTime a b (sinceOf t (b .local)) back)) ⊎ (errorEnd ≤ mag (sentError a b rest))))
+      × ((grandEnd ≤ atLeastZero (sentTime a b (sinceOf t (b .local)) back)) ⊎ (errorEnd ≤ mag (sentError a b stretch))))
       (λ q. absurd (omega (arith, ap sentNo q)))
       (λ q. absurd (omega (arith, ap sentNo q)))
       (λ _ _ _ _ _ _ _ _ _ _ q. absurd (omega (arith, ap sentNo q)))
@@ -152,7 +152,7 @@ module _ (samples : Samples) (t : LocalTime) (back rest : ℕ) where
 
 -- ---- what times that are sent tell: the two ends of the samples, the moment on the line through them, and the errorTime
 
-pub record Departure (samples : Samples) (t : LocalTime) (back rest : ℕ) (g : GrandTime) (e : ErrorTime) : Type 0 where
+pub record Departure (samples : Samples) (t : LocalTime) (back stretch : ℕ) (g : GrandTime) (e : ErrorTime) : Type 0 where
   pub oldest : Sample
   pub newest : Sample
   pub kept : endsOf samples ≡ Both oldest newest
@@ -160,12 +160,12 @@ pub record Departure (samples : Samples) (t : LocalTime) (back rest : ℕ) (g : 
   pub range : InRange g
   pub time : pos (units g) ≡ sentTime oldest newest (sinceOf t (newest .local)) back
   pub bits : e .0 < 2 ^ 32
-  pub error : errorOf e ≡ sentError oldest newest rest
+  pub error : errorOf e ≡ sentError oldest newest stretch
 
-module _ (samples : Samples) (t : LocalTime) (back rest : ℕ) (g : GrandTime) (e : ErrorTime) where
-  pub departure : sentOf samples t back rest ≡ At g e → Departure samples t back rest g e
+module _ (samples : Samples) (t : LocalTime) (back stretch : ℕ) (g : GrandTime) (e : ErrorTime) where
+  pub departure : sentOf samples t back stretch ≡ At g e → Departure samples t back stretch g e
   departure =
-      sent-is samples t back rest (λ (s : Sent). s ≡ At g e → Departure samples t back rest g e)
+      sent-is samples t back stretch (λ (s : Sent). s ≡ At g e → Departure samples t back stretch g e)
       (λ q. absurd (omega (arith, ap sentNo q)))
       (λ q. absurd (omega (arith, ap sentNo q)))
       (λ a b h x k l r z s v q.
@@ -183,8 +183,8 @@ module _ (samples : Samples) (t : LocalTime) (back rest : ℕ) (g : GrandTime) (
       })
       (λ _ _ _ _ _ q. absurd (omega (arith, ap sentNo q)))
 
-  -- demand 3 for what a frame carries, whatever errorTime makes up for
-  pub sent-near : (d : Departure samples t back rest g e) → LawfulSamples samples → back < longestElapsed
+  -- demand 3 for what a frame carries, whatever rest errorTime takes in
+  pub sent-near : (d : Departure samples t back stretch g e) → LawfulSamples samples → back < longestElapsed
       → NearLine bound (d .oldest) (d .newest) (pos (units g)) (reachOf (sinceOf t (d .newest .local)) back) back
   sent-near d w hb =
       subst (λ (z : ℤ). NearLine bound (d .oldest) (d .newest) z (reachOf (sinceOf t (d .newest .local)) back) back) (sym (d .time))

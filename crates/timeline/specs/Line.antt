@@ -28,7 +28,7 @@ readingAt a b x = readingBy (rateBetween a b) b x
 abbrev pub bound : ℕ
 bound = 9
 
--- a sent grand time with what errorTime makes up for lies less than this many units from the line at the departure itself: one rounding more
+-- a sent grand time with the rest in errorTime lies less than this many units from the line at the departure itself: one rounding more
 abbrev pub departureBound : ℕ
 departureBound = 10
 

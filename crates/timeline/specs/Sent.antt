@@ -32,14 +32,14 @@ reachOf elapsed back = pos elapsed -ℤ pos back
 unfoldable pub sentTime : Sample → Sample → ℕ → ℕ → ℤ
 sentTime a b elapsed back = readingAt a b (reachOf elapsed back) +ℤ pos back
 
--- the errorTime sent with it, at a rate: the newest sample's, and floor(rate × rest / 2^35). The rest is how much of the time before the departure
--- went into the sent grand time at the local rate and is made up for here: backTime, or none of it
+-- the errorTime sent with it, at a rate: the newest sample's, and the rest, floor(rate × stretch / 2^35), which is missing in the sent grand time: a stretch
+-- of the time before the departure went into that at the local rate. The stretch is backTime, or none where the rest is left out
 abbrev pub errorBy : ℤ → Sample → ℕ → ℤ
-errorBy rate b rest = errorOf (b .error) +ℤ scaledOf rate (pos rest)
+errorBy rate b stretch = errorOf (b .error) +ℤ scaledOf rate (pos stretch)
 
 -- the same at the rate between the oldest and the newest sample
 unfoldable pub sentError : Sample → Sample → ℕ → ℤ
-sentError a b rest = errorBy (rateBetween a b) b rest
+sentError a b stretch = errorBy (rateBetween a b) b stretch
 
 -- what a frame carries of both: 13 where one of them does not fit. A sent time is never below zero, says `sent-units`
 abbrev pub sentAs : Moment → ErrorWithin → Sent
@@ -49,12 +49,12 @@ sentAs Moments.Beyond e = Beyond
 
 -- what a frame that departs at t carries, by the two ends of the samples
 abbrev pub sentThrough : Ends → LocalTime → ℕ → ℕ → Sent
-sentThrough TooFew t back rest = Few
-sentThrough (Both a b) t back rest =
-    cond (ltb (sinceOf t (b .local)) longestElapsed) (sentAs (momentOf (sentTime a b (sinceOf t (b .local)) back)) (errorTimeOf (sentError a b rest))) Late
+sentThrough TooFew t back stretch = Few
+sentThrough (Both a b) t back stretch =
+    cond (ltb (sinceOf t (b .local)) longestElapsed) (sentAs (momentOf (sentTime a b (sinceOf t (b .local)) back)) (errorTimeOf (sentError a b stretch))) Late
 
 unfoldable pub sentOf : Samples → LocalTime → ℕ → ℕ → Sent
-sentOf samples t back rest = sentThrough (endsOf samples) t back rest
+sentOf samples t back stretch = sentThrough (endsOf samples) t back stretch
 
 -- document 01's number of a sent time, or of why there is none
 abbrev pub sentNo : Sent → ℕ
@@ -63,7 +63,7 @@ sentNo Few = fewSamples
 sentNo Late = tooLate
 sentNo Beyond = beyondRange
 
--- every sent grand time and errorTime together, backTime made up for, less the newest sample's errorTime, lies less than k units from the line at the
+-- every sent grand time and errorTime together, the rest of backTime in it, less the newest sample's errorTime, lies less than k units from the line at the
 -- departure itself. `departureBound` is the least such k
 abbrev pub DeparturesWithin : ℕ → Type 0
 DeparturesWithin k =

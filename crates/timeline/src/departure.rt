@@ -19,18 +19,18 @@ use times::local;
 // A departure lies less than this after the newest sample.
 const LONGEST_ELAPSED: u64 = 0x80_0000_0000;
 
-// The newest sample's errorTime, and what a clock of this rate gains over the rest that it makes up for.
-fn error_after(newest: Sample, rate: i64, rest: u64) -> ErrorWithin
+// The newest sample's errorTime, and the rest: what a clock of this rate gains over the stretch.
+fn error_after(newest: Sample, rate: i64, stretch: u64) -> ErrorWithin
     requires { ⌜ newest .error .0 < 2 ^ 32 ⌝ }
     requires { ⌜ natAbs rate ≤ steepest ⌝ }
-    requires { ⌜ rest < longestElapsed ⌝ }
-    ensures { λ r. ⌜ r ≡ errorTimeOf (errorBy rate newest rest) ⌝ }
+    requires { ⌜ stretch < longestElapsed ⌝ }
+    ensures { λ r. ⌜ r ≡ errorTimeOf (errorBy rate newest stretch) ⌝ }
 {
     let heard = newest.error;
-    if rest == 0 {
+    if stretch == 0 {
         return ErrorWithin::Is(heard);
     }
-    let gain = samples_rate::scaled(rate, numbers_whole::from_unsigned(rest));
+    let gain = samples_rate::scaled(rate, numbers_whole::from_unsigned(stretch));
     error::of_signed(numbers_whole::add(error::signed(heard), gain))
 }
 
@@ -48,11 +48,11 @@ fn carried(time: Moment, error: ErrorWithin) -> Sent
 }
 
 // What a frame that departs at t carries of a clock with these samples.
-pub fn sent(samples: Samples, t: LocalTime, back: u64, rest: u64) -> Sent
+pub fn sent(samples: Samples, t: LocalTime, back: u64, stretch: u64) -> Sent
     requires { ⌜ LawfulSamples samples ⌝ }
     requires { ⌜ back < longestElapsed ⌝ }
-    requires { ⌜ rest < longestElapsed ⌝ }
-    ensures { λ r. ⌜ r ≡ sentOf samples t back rest ⌝ }
+    requires { ⌜ stretch < longestElapsed ⌝ }
+    ensures { λ r. ⌜ r ≡ sentOf samples t back stretch ⌝ }
 {
     match samples_kept::ends(samples) {
         Ends::Few => Sent::Few,
@@ -64,7 +64,7 @@ pub fn sent(samples: Samples, t: LocalTime, back: u64, rest: u64) -> Sent
             let rate = samples_kept::rate_between(oldest, newest);
             let reach = numbers_whole::difference(elapsed, back);
             let time = crate::reading(newest, rate, reach, back);
-            carried(time, error_after(newest, rate, rest))
+            carried(time, error_after(newest, rate, stretch))
         }
     }
 }

@@ -3,8 +3,8 @@ use mathlib.Core.Path.{_≡_, sym, ap, _∙_, subst}
 use Prim.Native.Nat.{ℕ, _<_}
 use Rattle.port.specs.declared.Sending.the-variants.{Frame}
 use Rattle.timeline.specs.Sent.{longestElapsed, sentOf}
-use Rattle.port.specs.Send.{restOf}
-use Rattle.port.proofs.PortLaws.{rest-small, send-none, send-by}
+use Rattle.port.specs.Send.{stretchOf}
+use Rattle.port.proofs.PortLaws.{stretch-small, send-none, send-by}
 use borrow.Author.Needs.{needs}
 use Rattle.port_send.proofs.for_clock.Statement.{statement}
 use Rattle.port_send.proofs.for_clock.Tie as tie
@@ -18,7 +18,7 @@ enum-known-choice c = search needs
 sent-requires : tie.Need-sent-requires
 sent-requires c κs =
     let s = c .before .before .before .before in
-    (s .pre .0, (s .pre .1, subst (λ (n : ℕ). n < longestElapsed) (sym (c .rest .ensures)) (rest-small (s .args .version) (s .args .sender .back) (s .pre .1))))
+    (s .pre .0, (s .pre .1, subst (λ (n : ℕ). n < longestElapsed) (sym (c .stretch .ensures)) (stretch-small (s .args .version) (s .args .sender .back) (s .pre .1))))
 
 enum-known-grand : tie.Need-enum-known-grand
 enum-known-grand c = search needs
@@ -35,13 +35,13 @@ enum-told-3 c = search needs
 enum-told-4 : tie.Need-enum-told-4
 enum-told-4 c = search needs
 
--- what was read off the samples, with what errorTime makes up for by the version
+-- what was read off the samples, with the rest that the version takes in
 sent-is : (c : tie.After-sent) →
     let a = c .before .before .before .before .before .args in
-    c .sent .result ≡ sentOf (a .samples) (a .t) (a .sender .back) (restOf (a .version) (a .sender .back))
+    c .sent .result ≡ sentOf (a .samples) (a .t) (a .sender .back) (stretchOf (a .version) (a .sender .back))
 sent-is c =
     let a = c .before .before .before .before .before .args in
-    c .sent .ensures ∙ ap (sentOf (a .samples) (a .t) (a .sender .back)) (c .before .rest .ensures)
+    c .sent .ensures ∙ ap (sentOf (a .samples) (a .t) (a .sender .back)) (c .before .stretch .ensures)
 
 returns : tie.Need-returns
 returns c = send-none _ _ _ _ _ _ (c .enum-told .given .1)

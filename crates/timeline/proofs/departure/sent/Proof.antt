@@ -79,7 +79,7 @@ moment-is c = c .reading .ensures ∙ rw (rate-is (c .before), reach-is (c .befo
 
 error-is : (c : tie.After-error-after) →
     let m = found (c .before .before) in
-    c .error-after .result ≡ errorTimeOf (sentError (oldest m) (newest m) (start (c .before .before) .args .rest))
+    c .error-after .result ≡ errorTimeOf (sentError (oldest m) (newest m) (start (c .before .before) .args .stretch))
 unfolding sentError
 error-is c = c .error-after .ensures ∙ rw (rate-is (c .before .before))
 
