@@ -7,7 +7,6 @@ use lib.Dec.{lit<}
 use lib.IntN.{pos, natAbs, subℕ, _-ℤ_}
 use mir.Syntax.{w32}
 use mir.Val.{ofZ}
-use mir.ValLaws.{ofZ-toZ}
 use Rattle.times.specs.Times.{circle, second, sinceOf, units, errorOf}
 use Rattle.samples.specs.Rate.{Limits, steepest}
 use Rattle.samples.specs.Keep.{spreadOf, riseOf, gainedOf, gainBetween, rateBetween, keptBy, keptOf, howMany, endsOf, LawfulSample, LawfulEnds, LawfulSamples}
@@ -18,6 +17,7 @@ use Rattle.samples.specs.declared.Ends.the-variants.{Few, Both}
 use Rattle.samples.specs.declared.Gain.{Gain}
 use Rattle.samples.specs.declared.Gain.the-variants.{Within, Outside}
 use Rattle.numbers.proofs.Ring.{minus-is, neg-pos, sub-+, sub-ge, sub-ge2}
+use Rattle.times.proofs.ErrorLaws.{error-bits}
 use Rattle.samples.proofs.RateLaws.{gain-outside, within-gain, rate-small}
 
 -- where the limits hold, grand time rose, and by less than a second
@@ -117,7 +117,7 @@ sample-onward a b h = omega (arith, h .local)
 
 -- the bits of its errorTime are those of the signed number
 pub sample-error : (a : Sample) → LawfulSample a → ofZ w32 (errorOf (a .error)) ≡ a .error .0
-sample-error a h = ofZ-toZ w32 (a .error .0) (record { fits = h .error })
+sample-error a h = error-bits (a .error) (h .error)
 
 -- ---- the oldest and the newest
 
