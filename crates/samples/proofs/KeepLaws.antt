@@ -1,24 +1,24 @@
 -- Laws of the samples that are kept: where the limits hold grand time rose, and what is kept is lawful.
 use mathlib.Core.Path.{_≡_, refl, sym, ap, _∙_}
-use mathlib.Core.Bool.{Bool, true, false}
+use mathlib.Core.Bool.{Bool, true, false, cond, _&&_}
 use Prim.Native.Nat.{ℕ, _+_, _%_, _<_, _≤_}
 use native.Mathlib.Omega.{arith}
-use lib.Dec.{lit<}
-use lib.IntN.{pos, natAbs, subℕ, _-ℤ_}
+use lib.Dec.{lit<, lit≤}
+use lib.IntN.{ℤ, pos, natAbs, subℕ, _-ℤ_}
 use mir.Syntax.{w32}
 use mir.Val.{ofZ}
 use Rattle.times.specs.Times.{circle, second, sinceOf, units, errorOf}
 use Rattle.samples.specs.Rate.{Limits, steepest}
-use Rattle.samples.specs.Keep.{spreadOf, riseOf, gainedOf, gainBetween, rateBetween, keptBy, keptOf, howMany, endsOf, LawfulSample, LawfulEnds, LawfulSamples}
+use Rattle.samples.specs.Keep.{spreadOf, riseOf, gainedOf, gainBetween, rateBetween, limitsBetween, besideOne, besideTwo, keptOf, NewestIs, howMany, endsOf, LawfulSample, LawfulEnds, LawfulThree, LawfulSamples}
 use Rattle.samples.specs.declared.Sample.{Sample}
 use Rattle.samples.specs.declared.Samples.{Samples}
-use Rattle.samples.specs.declared.Samples.the-variants.{Empty, One, Two}
+use Rattle.samples.specs.declared.Samples.the-variants.{Empty, One, Two, Three}
 use Rattle.samples.specs.declared.Ends.the-variants.{Few, Both}
-use Rattle.samples.specs.declared.Gain.{Gain}
 use Rattle.samples.specs.declared.Gain.the-variants.{Within, Outside}
 use Rattle.numbers.proofs.Ring.{minus-is, neg-pos, sub-+, sub-ge, sub-ge2}
 use Rattle.times.proofs.ErrorLaws.{error-bits}
-use Rattle.samples.proofs.RateLaws.{gain-outside, within-gain, rate-small}
+use Rattle.times.proofs.TestLaws.{both-hold, refuted}
+use Rattle.samples.proofs.RateLaws.{limits-true, limits-told, within-gain, outside-gain, rate-small}
 
 -- where the limits hold, grand time rose, and by less than a second
 pub limits-rise : (a b s : ℕ) → Limits (pos b -ℤ pos a -ℤ pos s) s → (a < b) × (b < a + second)
@@ -28,24 +28,84 @@ limits-rise a b s k =
 
 -- ---- what is kept
 
+-- the limits hold from one sample to a later one
+abbrev Meet : Sample → Sample → Type 0
+Meet a b = Limits (gainedOf a b) (spreadOf a b)
+
+-- there is a gain exactly where they do
+pub gain-limits : (a b : Sample) (d : ℤ) → Within d ≡ gainBetween a b → limitsBetween a b ≡ true
+gain-limits a b d e =
+    let g = within-gain (riseOf a b) (spreadOf a b) d e in
+    limits-true (gainedOf a b) (spreadOf a b) (rw (g .0) at (g .1))
+
+pub no-gain-limits : (a b : Sample) → Outside ≡ gainBetween a b → limitsBetween a b ≡ false
+no-gain-limits a b e = refuted (limitsBetween a b) (λ h. outside-gain (riseOf a b) (spreadOf a b) e (limits-told (gainedOf a b) (spreadOf a b) h))
+
+-- the newest two of those that are kept
+abbrev pub recentOf : Samples → Samples
+recentOf Empty = Empty
+recentOf (One a) = One a
+recentOf (Two a b) = Two a b
+recentOf (Three z a b) = Two a b
+
 module _ (old : Samples) (same : Bool) (new : Sample) where
   -- of another clock, nothing
   pub kept-other : same ≡ false → One new ≡ keptOf old same new
   unfolding keptOf
   kept-other e = rw e
 
-  -- of the same clock, the newest sample where it may stay
+  -- of the same clock, the newest two where they may stay
   pub kept-first : same ≡ true → old ≡ Empty → One new ≡ keptOf old same new
   unfolding keptOf
   kept-first e o = rw (e, o)
 
-  pub kept-one : (a : Sample) → same ≡ true → old ≡ One a → keptBy (gainBetween a new) a new ≡ keptOf old same new
+  pub kept-one : (a : Sample) → same ≡ true → old ≡ One a → besideOne a new ≡ keptOf old same new
   unfolding keptOf
   kept-one a e o = rw (e, o)
 
-  pub kept-two : (z a : Sample) → same ≡ true → old ≡ Two z a → keptBy (gainBetween a new) a new ≡ keptOf old same new
+  pub kept-two : (a b : Sample) → same ≡ true → old ≡ Two a b → besideTwo a b new ≡ keptOf old same new
   unfolding keptOf
-  kept-two z a e o = rw (e, o)
+  kept-two a b e o = rw (e, o)
+
+  pub kept-three : (z a b : Sample) → same ≡ true → old ≡ Three z a b → besideTwo a b new ≡ keptOf old same new
+  unfolding keptOf
+  kept-three z a b e o = rw (e, o)
+
+-- what holds of the new sample alone, and of it beside those within the limits, holds of what is kept
+pub beside-one-is : (a new : Sample) (P : Samples → Type 0) → (Meet a new → P (Two a new)) → P (One new) → P (besideOne a new)
+beside-one-is a new P stays alone = go (limitsBetween a new) refl
+  where
+    go : (t : Bool) → limitsBetween a new ≡ t → P (cond t (Two a new) (One new))
+    go true e = stays (limits-told _ _ e)
+    go false e = alone
+
+pub beside-two-is : (a b new : Sample) (P : Samples → Type 0) → (Meet b new → Meet a new → P (Three a b new)) → P (One new) → P (besideTwo a b new)
+beside-two-is a b new P stay alone = go (limitsBetween b new && limitsBetween a new) refl
+  where
+    go : (t : Bool) → limitsBetween b new && limitsBetween a new ≡ t → P (cond t (Three a b new) (One new))
+    go true e =
+        let both = both-hold (limitsBetween b new) (limitsBetween a new) e in
+        stay (limits-told _ _ (both .0)) (limits-told _ _ (both .1))
+    go false e = alone
+
+-- the new sample alone, or beside up to the newest two of those that were kept
+pub kept-is : (old : Samples) (same : Bool) (new : Sample) (P : Samples → Type 0) → P (One new)
+    → ((a : Sample) → old ≡ One a → Meet a new → P (Two a new))
+    → ((a b : Sample) → recentOf old ≡ Two a b → Meet b new → Meet a new → P (Three a b new))
+    → P (keptOf old same new)
+unfolding keptOf
+kept-is old false new P alone one two = alone
+kept-is Empty true new P alone one two = alone
+kept-is (One a) true new P alone one two = beside-one-is a new P (one a refl) alone
+kept-is (Two a b) true new P alone one two = beside-two-is a b new P (two a b refl) alone
+kept-is (Three z a b) true new P alone one two = beside-two-is a b new P (two a b refl) alone
+
+-- at most three are kept, and the newest of them is the new one
+pub kept-most : (old : Samples) (same : Bool) (new : Sample) → howMany (keptOf old same new) ≤ 3
+kept-most old same new = kept-is old same new (λ (s : Samples). howMany s ≤ 3) (lit≤ tt) (λ _ _ _. lit≤ tt) (λ _ _ _ _ _. lit≤ tt)
+
+pub kept-newest : (old : Samples) (same : Bool) (new : Sample) → NewestIs new (keptOf old same new)
+kept-newest old same new = kept-is old same new (NewestIs new) refl (λ _ _ _. refl) (λ _ _ _ _ _. refl)
 
 -- a line has no ends exactly where there are fewer than two samples
 pub few-ends : (samples : Samples) → endsOf samples ≡ Few → howMany samples < 2
@@ -53,32 +113,42 @@ unfolding endsOf
 few-ends Empty q = lit< tt
 few-ends (One a) q = lit< tt
 few-ends (Two a b) q = let clash : _≡_ {A = ℕ} 0 1 = cc in absurd (omega arith)
+few-ends (Three a b c) q = let clash : _≡_ {A = ℕ} 0 1 = cc in absurd (omega arith)
 
 pub ends-few : (samples : Samples) → howMany samples < 2 → endsOf samples ≡ Few
 unfolding endsOf
 ends-few Empty h = refl
 ends-few (One a) h = refl
 ends-few (Two a b) h = absurd (omega (arith, h))
+ends-few (Three a b c) h = absurd (omega (arith, h))
 
 pub both-ends : (samples : Samples) (a b : Sample) → endsOf samples ≡ Both a b → howMany samples < 2 → ⊥
-unfolding endsOf
-both-ends Empty a b q h = let clash : _≡_ {A = ℕ} 0 1 = cc in omega arith
-both-ends (One x) a b q h = let clash : _≡_ {A = ℕ} 0 1 = cc in omega arith
-both-ends (Two x y) a b q h = omega (arith, h)
+both-ends samples a b q h = let clash : _≡_ {A = ℕ} 0 1 = few-is (sym (ends-few samples h) ∙ q) in omega arith
+  where
+    few-is : Few ≡ Both a b → _≡_ {A = ℕ} 0 1
+    few-is e = cc
+
+-- the newest two of those that are kept
+pub recent-lawful : (old : Samples) (a b : Sample) → LawfulSamples old → recentOf old ≡ Two a b → LawfulEnds a b
+recent-lawful old a b h e = rw e at (lawful old h)
+  where
+    lawful : (s : Samples) → LawfulSamples s → LawfulSamples (recentOf s)
+    lawful Empty h = h
+    lawful (One a) h = h
+    lawful (Two a b) h = h
+    lawful (Three z a b) h = h .newer
 
 -- what is kept is lawful again
-kept-by-lawful : (gain : Gain) (a new : Sample) → gain ≡ gainBetween a new → LawfulSample a → LawfulSample new → LawfulSamples (keptBy gain a new)
-kept-by-lawful (Within d) a new e h k =
-    let g = within-gain (riseOf a new) (spreadOf a new) d e in
-    record { oldest = h; newest = k; limits = rw (g .0) at (g .1) }
-kept-by-lawful Outside a new e h k = k
-
 pub kept-lawful : (old : Samples) (same : Bool) (new : Sample) → LawfulSamples old → LawfulSample new → LawfulSamples (keptOf old same new)
-unfolding keptOf
-kept-lawful old false new h k = k
-kept-lawful Empty true new h k = k
-kept-lawful (One a) true new h k = kept-by-lawful (gainBetween a new) a new refl h k
-kept-lawful (Two z a) true new h k = kept-by-lawful (gainBetween a new) a new refl (h .newest) k
+kept-lawful old same new h k =
+    kept-is old same new LawfulSamples k (λ a o m. record { oldest = rw o at h; newest = k; limits = m })
+    (λ a b o mb ma.
+    let held = recent-lawful old a b h o in
+    record {
+      older = held;
+      newer = record { oldest = held .newest; newest = k; limits = mb };
+      ends = record { oldest = held .oldest; newest = k; limits = ma };
+    })
 
 -- ---- a clock that stands still
 
@@ -87,26 +157,32 @@ abbrev pub Still : ℕ → Samples → Type 0
 Still g Empty = Unit {0}
 Still g (One a) = units (a .grand) ≡ g
 Still g (Two a b) = ⊥
+Still g (Three a b c) = ⊥
 
--- two samples with the same grand time are never kept together
-pub level-alone : (a new : Sample) → units (a .grand) ≡ units (new .grand) → keptBy (gainBetween a new) a new ≡ One new
-level-alone a new level =
-    ap (λ (gain : Gain). keptBy gain a new)
-    (sym (gain-outside (riseOf a new) (spreadOf a new) (λ k. omega (arith, level, limits-rise (units (a .grand)) (units (new .grand)) (spreadOf a new) k .0))))
+still-recent : (g : ℕ) (old : Samples) (a b : Sample) → Still g old → recentOf old ≡ Two a b → ⊥
+still-recent g old a b h e = rw e at (still old h)
+  where
+    still : (s : Samples) → Still g s → Still g (recentOf s)
+    still Empty h = h
+    still (One a) h = h
+    still (Two a b) h = h
+    still (Three z a b) h = h
 
--- so one sample stands alone, whatever was held
+-- two samples with the same grand time are never kept together, so one sample stands alone, whatever was held
 pub still-kept : (g : ℕ) (old : Samples) (same : Bool) (new : Sample) → Still g old → units (new .grand) ≡ g → Still g (keptOf old same new)
-unfolding keptOf
-still-kept g old false new h e = e
-still-kept g Empty true new h e = e
-still-kept g (One a) true new h e = rw (level-alone a new (h ∙ sym e)) e
-still-kept g (Two z a) true new h e = absurd h
+still-kept g old same new h e =
+    kept-is old same new (Still g) e
+    (λ a o m. omega (arith, level a (rw o at h), limits-rise (units (a .grand)) (units (new .grand)) (spreadOf a new) m .0)) (λ a b o mb ma. still-recent g old a b h o)
+  where
+    level : (a : Sample) → units (a .grand) ≡ g → units (a .grand) ≡ units (new .grand)
+    level a f = f ∙ sym e
 
 -- and there is no line
 pub still-few : (g : ℕ) (samples : Samples) → Still g samples → howMany samples < 2
 still-few g Empty h = lit< tt
 still-few g (One a) h = lit< tt
 still-few g (Two a b) h = absurd h
+still-few g (Three a b c) h = absurd h
 
 -- ---- the numbers of a lawful sample
 
@@ -132,3 +208,7 @@ ends-lawful (Two c d) a b w e =
     let p : c ≡ a = cc in
     let q : d ≡ b = cc in
     rw (p, q) at w
+ends-lawful (Three c d f) a b w e =
+    let p : c ≡ a = cc in
+    let q : f ≡ b = cc in
+    rw (p, q) at (w .ends)

@@ -21,10 +21,10 @@ use Rattle.times.proofs.TestLaws.{three-hold, refuted}
 
 -- ---- the limits, as a fact and as a test
 
-limits-true : (d : ℤ) (s : ℕ) → Limits d s → limitsHold d s ≡ true
+pub limits-true : (d : ℤ) (s : ℕ) → Limits d s → limitsHold d s ≡ true
 limits-true d s k = rw (le-leb shortestSpread s (k .low), le-leb s longestSpread (k .high), le-leb (natAbs d * perGain) s (k .near))
 
-limits-told : (d : ℤ) (s : ℕ) → limitsHold d s ≡ true → Limits d s
+pub limits-told : (d : ℤ) (s : ℕ) → limitsHold d s ≡ true → Limits d s
 limits-told d s e =
     let k = three-hold (leb shortestSpread s) (leb s longestSpread) (leb (natAbs d * perGain) s) e in
     record { low = leb-true _ _ (k .0); high = leb-true _ _ (k .1); near = leb-true _ _ (k .2) }

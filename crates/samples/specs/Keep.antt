@@ -1,12 +1,13 @@
 -- Step 4, which samples are kept, and the two of them that a line is read off.
-use mathlib.Core.Bool.{Bool, true, false}
+use mathlib.Core.Path.{_≡_}
+use mathlib.Core.Bool.{Bool, true, false, cond, _&&_}
 use Prim.Native.Nat.{ℕ, _^_, _<_}
 use lib.IntN.{ℤ, pos, _-ℤ_}
 use Rattle.times.specs.Times.{circle, sinceOf, units, InRange}
-use Rattle.samples.specs.Rate.{Limits, gainOf, rateOf}
+use Rattle.samples.specs.Rate.{Limits, limitsHold, gainOf, rateOf}
 use Rattle.samples.specs.declared.Sample.{Sample}
 use Rattle.samples.specs.declared.Samples.{Samples}
-use Rattle.samples.specs.declared.Samples.the-variants.{Empty, One, Two}
+use Rattle.samples.specs.declared.Samples.the-variants.{Empty, One, Two, Three}
 use Rattle.samples.specs.declared.Ends.{Ends}
 use Rattle.samples.specs.declared.Ends.the-variants.{Few, Both}
 use Rattle.samples.specs.declared.Gain.{Gain}
@@ -30,29 +31,46 @@ gainBetween a b = gainOf (riseOf a b) (spreadOf a b)
 abbrev pub rateBetween : Sample → Sample → ℤ
 rateBetween a b = rateOf (gainedOf a b) (spreadOf a b)
 
--- the newest sample stays beside the new one exactly where the limits hold between them
-abbrev pub keptBy : Gain → Sample → Sample → Samples
-keptBy (Within d) newest new = Two newest new
-keptBy Outside newest new = One new
+-- whether the limits hold from one sample to a later one
+abbrev pub limitsBetween : Sample → Sample → Bool
+limitsBetween a b = limitsHold (gainedOf a b) (spreadOf a b)
 
--- what is kept with a new sample: nothing of another clock, and of the same clock the newest sample if it may stay
+-- a new sample beside the newest one where the limits hold from that to it, and alone otherwise
+abbrev pub besideOne : Sample → Sample → Samples
+besideOne a new = cond (limitsBetween a new) (Two a new) (One new)
+
+-- and where three would then stand, only if the limits hold from the oldest that stays as well
+abbrev pub besideTwo : Sample → Sample → Sample → Samples
+besideTwo a b new = cond (limitsBetween b new && limitsBetween a new) (Three a b new) (One new)
+
+-- what is kept with a new sample: of another clock nothing, and of the same clock up to the newest two, where they may stay
 unfoldable pub keptOf : Samples → Bool → Sample → Samples
 keptOf old false new = One new
 keptOf Empty true new = One new
-keptOf (One a) true new = keptBy (gainBetween a new) a new
-keptOf (Two z a) true new = keptBy (gainBetween a new) a new
+keptOf (One a) true new = besideOne a new
+keptOf (Two a b) true new = besideTwo a b new
+keptOf (Three z a b) true new = besideTwo a b new
 
 -- how many samples there are
 abbrev pub howMany : Samples → ℕ
 howMany Empty = 0
 howMany (One a) = 1
 howMany (Two a b) = 2
+howMany (Three a b c) = 3
+
+-- the newest of them is this one
+abbrev pub NewestIs : Sample → Samples → Type 0
+NewestIs new Empty = ⊥
+NewestIs new (One a) = a ≡ new
+NewestIs new (Two a b) = b ≡ new
+NewestIs new (Three a b c) = c ≡ new
 
 -- too few samples to read a line off, or the oldest and the newest that are kept
 unfoldable pub endsOf : Samples → Ends
 endsOf Empty = Few
 endsOf (One a) = Few
 endsOf (Two a b) = Both a b
+endsOf (Three a b c) = Both a c
 
 -- a sample's numbers: a grand time of 40 bits and 40 bits, a local time of 48, an errorTime of 32
 pub record LawfulSample (a : Sample) : Type 0 where
@@ -66,8 +84,14 @@ pub record LawfulEnds (a b : Sample) : Type 0 where
   pub newest : LawfulSample b
   pub limits : Limits (gainedOf a b) (spreadOf a b)
 
--- samples that step 4 keeps
+-- samples that step 4 keeps: the limits hold between any two of them
+pub record LawfulThree (a b c : Sample) : Type 0 where
+  pub older : LawfulEnds a b
+  pub newer : LawfulEnds b c
+  pub ends : LawfulEnds a c
+
 abbrev pub LawfulSamples : Samples → Type 0
 LawfulSamples Empty = Unit {0}
 LawfulSamples (One a) = LawfulSample a
 LawfulSamples (Two a b) = LawfulEnds a b
+LawfulSamples (Three a b c) = LawfulThree a b c

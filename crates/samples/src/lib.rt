@@ -11,11 +11,12 @@ pub struct Sample {
     pub error: ErrorTime,
 }
 
-// What is kept of a clock, the older sample first.
+// What is kept of a clock, the oldest sample first.
 pub enum Samples {
     Empty,
     One(Sample),
     Two(Sample, Sample),
+    Three(Sample, Sample, Sample),
 }
 
 // The oldest and the newest sample that are kept, or that there are too few to read a line off.

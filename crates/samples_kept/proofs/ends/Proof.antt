@@ -16,5 +16,10 @@ returns-3 : tie.Need-returns-3
 unfolding endsOf
 returns-3 c = rw (c .before .samples .given .1)
 
+returns-4 : tie.Need-returns-4
+unfolding endsOf
+returns-4 c = rw (c .before .samples2 .given .1)
+
 pub ends-spec : {M : Type 1} → statement M
-ends-spec = tie.close (tie.spec (λ c. search needs) (λ c. search needs) (λ c. search needs) returns returns-2 returns-3)
+ends-spec =
+    tie.close (tie.spec (λ c. search needs) (λ c. search needs) (λ c. search needs) (λ c. search needs) returns returns-2 returns-3 returns-4)
