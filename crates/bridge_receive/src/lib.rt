@@ -1,11 +1,24 @@
 // Receive: a frame that arrived at a port.
+ghost use mathlib.Core.Path.{_≡_};
+ghost use Prim.Native.Nat.{_<_};
+ghost use lib.ListN.{getD};
+ghost use Rattle.bridge.specs.Fits.{measuredSetting};
 ghost use Rattle.bridge.specs.State.{Lawful};
 ghost use Rattle.bridge.specs.Receive.{receiveOf};
 ghost use Rattle.bridge.specs.Promises.{DonePromise};
 use bridge::Bridge;
 use bridge::Done;
 use frame::Reading;
+use port::Setting;
 use times::LocalTime;
+
+// A port's setting, by its index; the copy of all settings is gone before a frame is worked on.
+fn setting_at(settings: [Setting; 8], i: usize) -> Setting
+    requires { ⌜ i < 8 ⌝ }
+    ensures { λ r. ⌜ r ≡ getD settings i measuredSetting ⌝ }
+{
+    settings[i]
+}
 
 // Receive: a frame that arrived at a port. What the port announces takes its place in the ranking before its record is stored.
 pub fn receive(b: Bridge, port: u8, frame: &[u8], arrival: u64) -> Done
@@ -24,8 +37,7 @@ pub fn receive(b: Bridge, port: u8, frame: &[u8], arrival: u64) -> Done
                 let hop = choice_candidates::chosen_hop(choice);
                 let i = (port - 1) as usize;
                 let held = next.ports[i];
-                let settings = next.setup.settings;
-                let setting = settings[i];
+                let setting = setting_at(next.setup.settings, i);
                 let received = port_receive::receive(held, setting, hop, f, LocalTime(arrival));
                 let after = received.port;
                 answer = received.answer;

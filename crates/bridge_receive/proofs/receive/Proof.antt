@@ -8,6 +8,7 @@ use lib.ListN.{set}
 use Rattle.numbers.specs.Bytes.{Bytes}
 use Rattle.choice.specs.Choose.{chosenHop}
 use Rattle.port.specs.Receive.{receivedOf}
+use Rattle.port.specs.declared.Setting.{Setting}
 use Rattle.port.specs.declared.PortDone.{PortDone}
 use Rattle.bridge.specs.Table.{portAt}
 use Rattle.bridge.specs.State.{withPort, answers, storesPort}
@@ -64,6 +65,9 @@ candidate-at-requires c κs = (_, ranking-keeps _ (start (c .before .before .bef
 chosen : (k : tie.After-candidate-at) → k .«candidate-at» .result ≡ chosenOf (start (heard k) .args .b)
 chosen k = k .«candidate-at» .ensures ∙ kept-chosen _ (start (heard k) .pre)
 
+setting-at-requires : tie.Need-setting-at-requires
+setting-at-requires c κs = index (heard (c .before .before .before))
+
 receive-requires : tie.Need-receive-requires
 receive-requires c κs =
     let f = heard (c .before .before .before .before) in
@@ -113,6 +117,8 @@ taken c =
     (ap (answers (r .receive .result .answer)) (stored c)
     ∙ ap (storesPort (a .b) i)
     (r .receive .ensures
+    ∙ ap (λ (setting : Setting). receivedOf setting (h .chosen-hop .result) (f .f .given .0 .0) (record { 0 = a .arrival }) (portAt (a .b .ports) i))
+    (r .before .setting-at .ensures)
     ∙ ap (λ (hop : ℕ). receivedOf (settingAt (a .b) i) hop (f .f .given .0 .0) (record { 0 = a .arrival }) (portAt (a .b .ports) i))
     (h .chosen-hop .ensures ∙ ap chosenHop (chosen (h .before))))
     ∙ receive-stores _ _ _ _
@@ -135,8 +141,7 @@ receive-spec =
     (λ c. search needs)
     (λ c. search needs)
     (λ c. index (heard (c .before)))
-    (λ c. search needs)
-    (λ c. index (heard (c .before .before .before)))
+    setting-at-requires
     receive-requires
     update-requires
     (λ c. record { fits = omega (arith, index (heard (hop (c .before .before) .before))) })
