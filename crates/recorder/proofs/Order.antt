@@ -24,7 +24,7 @@ use Rattle.recorder.specs.Demands.{NoEarlier}
 use Rattle.recorder.specs.declared.Stamped.the-variants.{At}
 use Rattle.numbers.proofs.Ring.{same, split, of-pos, of-neg, neg-pos, minus-is, sub-lt, sub-ge, sub-ge2, sub-+, sub-*, sub-neg-is}
 use Rattle.samples.proofs.KeepLaws.{between-small}
-use Rattle.times.proofs.TimeLaws.{since-lt}
+use Rattle.times.proofs.TimeLaws.{since-lt, on-and-on}
 use Rattle.recorder.proofs.DistanceLaws.{way-on, way-back, there-and-back}
 use Rattle.recorder.proofs.StampLaws.{read-off, read-at}
 use Rattle.recorder.proofs.Near.{chosen-ends}
@@ -122,23 +122,6 @@ within : {latch newer : LocalTime} (w : Way latch newer) → natAbs (distanceOf 
 within {latch} {newer} w h =
     let n = w .turns * circle in
     (omega (arith, ap natAbs (w .is), sub-ge2 (sinceOf latch newer) n), omega (arith, ap natAbs (w .is), sub-ge (sinceOf latch newer) n))
-
--- the way from a to b leads from a's place on the circle to b's, past the circle's start at most once
-past-start : (a b : LocalTime) → (k : ℕ) × (sinceOf b a + a .0 % circle ≡ b .0 % circle + k * circle)
-unfolding sinceOf
-past-start a b = go (decLe (a .0 % circle) (b .0 % circle))
-  where
-    go : Dec (a .0 % circle ≤ b .0 % circle) → (k : ℕ) × (sinceOf b a + a .0 % circle ≡ b .0 % circle + k * circle)
-    go (yes h) = (0, omega arith)
-    go (no h) = (1, omega (arith, lt-of-not-le h))
-
--- from a to b and on to c, less whole turns, is from a to c
-on-and-on : (a b c : LocalTime) → (t : ℕ) × (sinceOf b a + sinceOf c b ≡ sinceOf c a + t * circle)
-on-and-on a b c =
-    let x = past-start a b in
-    let y = past-start b c in
-    let z = past-start a c in
-    (x .0 + y .0 - z .0, omega (arith, x .1, y .1, z .1, since-lt c a))
 
 distance-on : (newer latch later : LocalTime) → natAbs (distanceOf latch newer) ≤ longestReach → natAbs (distanceOf later newer) ≤ longestReach
     → sinceOf later latch ≤ 2 * longestReach → distanceOf later newer ≡ distanceOf latch newer +ℤ pos (sinceOf later latch)

@@ -1,5 +1,5 @@
 -- Laws of the samples that are kept: where the limits hold grand time rose, and what is kept is lawful.
-use mathlib.Core.Path.{_≡_, refl, sym, ap, _∙_}
+use mathlib.Core.Path.{_≡_, refl, sym, ap, subst, _∙_}
 use mathlib.Core.Bool.{Bool, true, false, cond, _&&_}
 use Prim.Native.Nat.{ℕ, _+_, _%_, _<_, _≤_}
 use native.Mathlib.Omega.{arith}
@@ -9,7 +9,7 @@ use mir.Syntax.{w32}
 use mir.Val.{ofZ}
 use Rattle.times.specs.Times.{circle, second, sinceOf, units, errorOf}
 use Rattle.samples.specs.Rate.{Limits, steepest}
-use Rattle.samples.specs.Keep.{spreadOf, riseOf, gainedOf, gainBetween, rateBetween, limitsBetween, besideOne, besideTwo, keptOf, NewestIs, howMany, endsOf, LawfulSample, LawfulEnds, LawfulThree, LawfulSamples}
+use Rattle.samples.specs.Keep.{spreadOf, riseOf, gainedOf, gainBetween, rateBetween, limitsBetween, besideOne, besideTwo, keptOf, OldestIs, NewestIs, howMany, endsOf, LawfulSample, LawfulEnds, LawfulThree, LawfulSamples}
 use Rattle.samples.specs.declared.Sample.{Sample}
 use Rattle.samples.specs.declared.Samples.{Samples}
 use Rattle.samples.specs.declared.Samples.the-variants.{Empty, One, Two, Three}
@@ -29,7 +29,7 @@ limits-rise a b s k =
 -- ---- what is kept
 
 -- the limits hold from one sample to a later one
-abbrev Meet : Sample → Sample → Type 0
+abbrev pub Meet : Sample → Sample → Type 0
 Meet a b = Limits (gainedOf a b) (spreadOf a b)
 
 -- there is a gain exactly where they do
@@ -47,6 +47,16 @@ recentOf Empty = Empty
 recentOf (One a) = One a
 recentOf (Two a b) = Two a b
 recentOf (Three z a b) = Two a b
+
+-- what holds of the samples that are kept, and of the newest two where it holds of three, holds of them
+pub recent-keeps : (P : Samples → Type 0) → ((z a b : Sample) → P (Three z a b) → P (Two a b)) → (samples : Samples) (a b : Sample) → recentOf samples ≡ Two a b → P samples → P (Two a b)
+recent-keeps P three samples a b e h = subst P e (go samples h)
+  where
+    go : (s : Samples) → P s → P (recentOf s)
+    go Empty h = h
+    go (One a) h = h
+    go (Two a b) h = h
+    go (Three z a b) h = three z a b h
 
 module _ (old : Samples) (same : Bool) (new : Sample) where
   -- of another clock, nothing
@@ -107,6 +117,14 @@ kept-most old same new = kept-is old same new (λ (s : Samples). howMany s ≤ 3
 pub kept-newest : (old : Samples) (same : Bool) (new : Sample) → NewestIs new (keptOf old same new)
 kept-newest old same new = kept-is old same new (NewestIs new) refl (λ _ _ _. refl) (λ _ _ _ _ _. refl)
 
+-- the ends are the oldest and the newest of them
+pub ends-outer : (samples : Samples) (a b : Sample) → endsOf samples ≡ Both a b → OldestIs a samples × NewestIs b samples
+unfolding endsOf
+ends-outer Empty a b e = let clash : _≡_ {A = ℕ} 0 1 = cc in absurd (omega arith)
+ends-outer (One c) a b e = let clash : _≡_ {A = ℕ} 0 1 = cc in absurd (omega arith)
+ends-outer (Two c d) a b e = (cc, cc)
+ends-outer (Three c d f) a b e = (cc, cc)
+
 -- a line has no ends exactly where there are fewer than two samples
 pub few-ends : (samples : Samples) → endsOf samples ≡ Few → howMany samples < 2
 unfolding endsOf
@@ -128,22 +146,12 @@ both-ends samples a b q h = let clash : _≡_ {A = ℕ} 0 1 = few-is (sym (ends-
     few-is : Few ≡ Both a b → _≡_ {A = ℕ} 0 1
     few-is e = cc
 
--- the newest two of those that are kept
-pub recent-lawful : (old : Samples) (a b : Sample) → LawfulSamples old → recentOf old ≡ Two a b → LawfulEnds a b
-recent-lawful old a b h e = rw e at (lawful old h)
-  where
-    lawful : (s : Samples) → LawfulSamples s → LawfulSamples (recentOf s)
-    lawful Empty h = h
-    lawful (One a) h = h
-    lawful (Two a b) h = h
-    lawful (Three z a b) h = h .newer
-
 -- what is kept is lawful again
 pub kept-lawful : (old : Samples) (same : Bool) (new : Sample) → LawfulSamples old → LawfulSample new → LawfulSamples (keptOf old same new)
 kept-lawful old same new h k =
     kept-is old same new LawfulSamples k (λ a o m. record { oldest = rw o at h; newest = k; limits = m })
     (λ a b o mb ma.
-    let held = recent-lawful old a b h o in
+    let held = recent-keeps LawfulSamples (λ _ _ _ three. three .newer) old a b o h in
     record {
       older = held;
       newer = record { oldest = held .newest; newest = k; limits = mb };
@@ -159,20 +167,11 @@ Still g (One a) = units (a .grand) ≡ g
 Still g (Two a b) = ⊥
 Still g (Three a b c) = ⊥
 
-still-recent : (g : ℕ) (old : Samples) (a b : Sample) → Still g old → recentOf old ≡ Two a b → ⊥
-still-recent g old a b h e = rw e at (still old h)
-  where
-    still : (s : Samples) → Still g s → Still g (recentOf s)
-    still Empty h = h
-    still (One a) h = h
-    still (Two a b) h = h
-    still (Three z a b) h = h
-
 -- two samples with the same grand time are never kept together, so one sample stands alone, whatever was held
 pub still-kept : (g : ℕ) (old : Samples) (same : Bool) (new : Sample) → Still g old → units (new .grand) ≡ g → Still g (keptOf old same new)
 still-kept g old same new h e =
     kept-is old same new (Still g) e
-    (λ a o m. omega (arith, level a (rw o at h), limits-rise (units (a .grand)) (units (new .grand)) (spreadOf a new) m .0)) (λ a b o mb ma. still-recent g old a b h o)
+    (λ a o m. omega (arith, level a (rw o at h), limits-rise (units (a .grand)) (units (new .grand)) (spreadOf a new) m .0)) (λ a b o _ _. recent-keeps (Still g) (λ _ _ _ three. three) old a b o h)
   where
     level : (a : Sample) → units (a .grand) ≡ g → units (a .grand) ≡ units (new .grand)
     level a f = f ∙ sym e

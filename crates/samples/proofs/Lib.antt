@@ -1,2 +1,3 @@
 pub mod RateLaws
 pub mod KeepLaws
+pub mod Three

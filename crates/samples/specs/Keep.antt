@@ -58,7 +58,13 @@ howMany (One a) = 1
 howMany (Two a b) = 2
 howMany (Three a b c) = 3
 
--- the newest of them is this one
+-- the oldest of them is this one, and the newest
+abbrev pub OldestIs : Sample → Samples → Type 0
+OldestIs old Empty = ⊥
+OldestIs old (One a) = a ≡ old
+OldestIs old (Two a b) = a ≡ old
+OldestIs old (Three a b c) = a ≡ old
+
 abbrev pub NewestIs : Sample → Samples → Type 0
 NewestIs new Empty = ⊥
 NewestIs new (One a) = a ≡ new

@@ -1,6 +1,6 @@
 -- Laws of times: the difference round a circle, the count that follows, and a grand time and the moment of its units.
 use mathlib.Core.Path.{_≡_, refl, sym, ap, _∙_}
-use Prim.Native.Nat.{ℕ, zero, suc, _+_, _-_, _/_, _%_, _^_, _<_, _≤_}
+use Prim.Native.Nat.{ℕ, zero, suc, _+_, _-_, _*_, _/_, _%_, _^_, _<_, _≤_}
 use native.Mathlib.Nat.{add-mod, add-mod-right, mod-lt, mod-eq-of-lt, mod-eq-sub-mod, mod-mod-of-dvd, dvd-of-mod-eq-zero, lt-of-not-le}
 use native.Mathlib.Decide.{decLe}
 use native.Mathlib.Omega.{arith}
@@ -18,6 +18,23 @@ use Rattle.numbers.proofs.Branches.{if-when}
 pub since-lt : (a b : LocalTime) → sinceOf a b < circle
 unfolding sinceOf
 since-lt a b = omega arith
+
+-- the way from a to b leads from a's place on the circle to b's, past the circle's start at most once
+past-start : (a b : LocalTime) → (k : ℕ) × (sinceOf b a + a .0 % circle ≡ b .0 % circle + k * circle)
+unfolding sinceOf
+past-start a b = go (decLe (a .0 % circle) (b .0 % circle))
+  where
+    go : Dec (a .0 % circle ≤ b .0 % circle) → (k : ℕ) × (sinceOf b a + a .0 % circle ≡ b .0 % circle + k * circle)
+    go (yes h) = (0, omega arith)
+    go (no h) = (1, omega (arith, lt-of-not-le h))
+
+-- from a to b and on to c, less whole turns, is from a to c
+pub on-and-on : (a b c : LocalTime) → (t : ℕ) × (sinceOf b a + sinceOf c b ≡ sinceOf c a + t * circle)
+on-and-on a b c =
+    let x = past-start a b in
+    let y = past-start b c in
+    let z = past-start a c in
+    (x .0 + y .0 - z .0, omega (arith, x .1, y .1, z .1, since-lt c a))
 
 -- the machine's wrapped difference, reduced to a circle that divides the machine's, is the difference round that circle
 pub around-is : (a b n w : ℕ) → 0 < n → 2 ^ 64 % n ≡ 0 → (w + b) % 2 ^ 64 ≡ a → w % n ≡ aroundOf a b n
