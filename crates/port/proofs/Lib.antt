@@ -4,4 +4,5 @@ pub mod Literals
 pub mod Order
 pub mod Edges
 pub mod Versions
+pub mod Three
 pub mod ListenerLaws

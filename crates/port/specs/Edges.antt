@@ -49,7 +49,7 @@ abbrev many : Samples → ℤ
 many samples = pos (howMany samples)
 
 -- the units of a sent time, or a refusal's number below zero
-abbrev sent : Sent → ℤ
+abbrev pub sent : Sent → ℤ
 sent (At g e) = pos (units g)
 sent Few = minus (sentNo Few)
 sent Late = minus (sentNo Late)

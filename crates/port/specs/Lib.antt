@@ -8,3 +8,4 @@ pub mod Literals
 pub mod Order
 pub mod Edges
 pub mod Versions
+pub mod Three

@@ -2,20 +2,21 @@
 -- second three samples stand, and where frames lie more than a quarter of a second apart, one of any two samples in a row stands alone.
 use mathlib.Core.Path.{_≡_, refl, sym, ap, subst, _∙_}
 use mathlib.Core.Bool.{Bool, true, _&&_, cond}
-use mathlib.Core.Logic.{_⊎_, inl, inr}
+use mathlib.Core.Logic.{_⊎_, inl, inr, ⊎-elim}
 use Prim.Native.Nat.{ℕ, _+_, _*_, _^_, _<_, _≤_}
 use native.Mathlib.Omega.{arith}
 use lib.IntN.{ℤ, pos, natAbs, _+ℤ_, _-ℤ_}
 use Rattle.times.specs.Times.{circle, units}
 use Rattle.samples.specs.Rate.{shortestSpread, longestSpread, perGain}
-use Rattle.samples.specs.Keep.{spreadOf, riseOf, gainedOf, limitsBetween, besideTwo, keptOf, howMany}
+use Rattle.samples.specs.Keep.{spreadOf, riseOf, gainedOf, limitsBetween, besideTwo, keptOf, howMany, endsOf}
 use Rattle.samples.specs.declared.Sample.{Sample}
 use Rattle.samples.specs.declared.Samples.{Samples}
 use Rattle.samples.specs.declared.Samples.the-variants.{Empty, One, Two, Three}
+use Rattle.samples.specs.declared.Ends.the-variants.{Few}
 use Rattle.times.proofs.TimeLaws.{on-and-on}
 use Rattle.numbers.proofs.Ring.{same, split, neg-pos, sub-+, sub-neg-is, natAbs-+}
 use Rattle.samples.proofs.RateLaws.{limits-true}
-use Rattle.samples.proofs.KeepLaws.{Meet, recent-keeps, beside-two-is, kept-is}
+use Rattle.samples.proofs.KeepLaws.{Meet, recent-keeps, beside-two-is, kept-is, ends-few}
 
 module _ (a b new : Sample) (held : Meet a b) (met : Meet b new) where
   -- the spreads add up, round the circle
@@ -80,3 +81,8 @@ either-alone old a b far onward =
   where
     then-alone : (x : Sample) → Meet x a → 2 ^ 38 < spreadOf x a → Alone (besideTwo x a b)
     then-alone x m h = beside-two-is x a b Alone (λ mb whole. absurd (far-apart x a b m mb h onward whole)) refl
+
+-- so one of the two leaves no line, and a Send on it is refused with 11
+pub either-few : (old : Samples) (a b : Sample) → Farther (2 ^ 38) old a → 2 ^ 38 < spreadOf a b
+    → (endsOf (keptOf old true a) ≡ Few) ⊎ (endsOf (keptOf (keptOf old true a) true b) ≡ Few)
+either-few old a b far onward = ⊎-elim (λ h. inl (ends-few _ (omega (arith, h)))) (λ h. inr (ends-few _ (omega (arith, h)))) (either-alone old a b far onward)

@@ -1,6 +1,6 @@
 -- Step 4, which samples are kept, and the two of them that a line is read off.
 use mathlib.Core.Path.{_≡_}
-use mathlib.Core.Bool.{Bool, true, false, cond, _&&_}
+use mathlib.Core.Bool.{Bool, cond, _&&_}
 use Prim.Native.Nat.{ℕ, _^_, _<_}
 use lib.IntN.{ℤ, pos, _-ℤ_}
 use Rattle.times.specs.Times.{circle, sinceOf, units, InRange}
@@ -43,13 +43,16 @@ besideOne a new = cond (limitsBetween a new) (Two a new) (One new)
 abbrev pub besideTwo : Sample → Sample → Sample → Samples
 besideTwo a b new = cond (limitsBetween b new && limitsBetween a new) (Three a b new) (One new)
 
--- what is kept with a new sample: of another clock nothing, and of the same clock up to the newest two, where they may stay
+-- a new sample beside up to the newest two of those that were kept
+abbrev pub besideOf : Samples → Sample → Samples
+besideOf Empty new = One new
+besideOf (One a) new = besideOne a new
+besideOf (Two a b) new = besideTwo a b new
+besideOf (Three z a b) new = besideTwo a b new
+
+-- what is kept with a new sample, which is of the same clock or not
 unfoldable pub keptOf : Samples → Bool → Sample → Samples
-keptOf old false new = One new
-keptOf Empty true new = One new
-keptOf (One a) true new = besideOne a new
-keptOf (Two a b) true new = besideTwo a b new
-keptOf (Three z a b) true new = besideTwo a b new
+keptOf old same new = cond same (besideOf old new) (One new)
 
 -- how many samples there are
 abbrev pub howMany : Samples → ℕ
