@@ -167,14 +167,14 @@ Still g (One a) = units (a .grand) ≡ g
 Still g (Two a b) = ⊥
 Still g (Three a b c) = ⊥
 
--- two samples with the same grand time are never kept together, so one sample stands alone, whatever was held
+-- two samples with the same grand time are never kept together
+pub level-alone : (a new : Sample) → units (a .grand) ≡ units (new .grand) → Meet a new → ⊥
+level-alone a new level m = omega (arith, level, limits-rise (units (a .grand)) (units (new .grand)) (spreadOf a new) m .0)
+
+-- so one sample stands alone, whatever was held
 pub still-kept : (g : ℕ) (old : Samples) (same : Bool) (new : Sample) → Still g old → units (new .grand) ≡ g → Still g (keptOf old same new)
 still-kept g old same new h e =
-    kept-is old same new (Still g) e
-    (λ a o m. omega (arith, level a (rw o at h), limits-rise (units (a .grand)) (units (new .grand)) (spreadOf a new) m .0)) (λ a b o _ _. recent-keeps (Still g) (λ _ _ _ three. three) old a b o h)
-  where
-    level : (a : Sample) → units (a .grand) ≡ g → units (a .grand) ≡ units (new .grand)
-    level a f = f ∙ sym e
+    kept-is old same new (Still g) e (λ a o m. level-alone a new ((rw o at h) ∙ sym e) m) (λ a b o _ _. recent-keeps (Still g) (λ _ _ _ three. three) old a b o h)
 
 -- and there is no line
 pub still-few : (g : ℕ) (samples : Samples) → Still g samples → howMany samples < 2
