@@ -25,9 +25,9 @@ pub const OUT_OF_SEQUENCE: Answer = 8;
 pub const BAD_DELAY: Answer = 9;
 /// There is no clock to use.
 pub const NO_CLOCK: Answer = 10;
-/// The chosen clock lacks samples.
+/// The chosen clock has fewer than two samples.
 pub const TOO_FEW_SAMPLES: Answer = 11;
-/// The departure or the latch is too far from the newer sample.
+/// The departure or the latch is too far from the newest sample.
 pub const OUT_OF_REACH: Answer = 12;
 /// What was worked out is beyond its range: a grand time or an errorTime to be sent, a stamp, or seconds of a scale.
 pub const BEYOND_RANGE: Answer = 13;

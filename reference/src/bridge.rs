@@ -220,14 +220,14 @@ impl<T: Table, O: Order> Bridge<T, O> {
             .map(|place| &self.ports.as_ref()[place].record.samples)
     }
 
-    /// Gives the chosen clock with its older and its newer sample, or refuses.
+    /// Gives the chosen clock with its oldest and its newest sample, or refuses.
     fn followed(&mut self) -> Result<(Chosen, Sample, Sample), Answer> {
         let chosen = self.choose().ok_or(NO_CLOCK)?;
-        let (older, newer) = self
+        let (oldest, newest) = self
             .samples(chosen.port)
-            .and_then(Samples::both)
+            .and_then(Samples::ends)
             .ok_or(TOO_FEW_SAMPLES)?;
-        Ok((chosen, older, newer))
+        Ok((chosen, oldest, newest))
     }
 
     /// Gives the fields of a frame that tell of a clock in a version, those of a station and of a link being zeros, or refuses.
@@ -241,16 +241,16 @@ impl<T: Table, O: Order> Bridge<T, O> {
 
     /// Gives the fields that tell of the chosen clock, with the grand time for a departure and the errorTime of a version, or refuses.
     fn told_of_chosen(&mut self, version: Version, departure: u64) -> Result<Fields, Answer> {
-        let (chosen, older, newer) = self.followed()?;
-        if spread(departure, newer.local) >= REACH_END {
+        let (chosen, oldest, newest) = self.followed()?;
+        if spread(departure, newest.local) >= REACH_END {
             return Err(OUT_OF_REACH);
         }
         let back = self.settings.back;
-        let rate = rules::sample_rate(older.point(), newer.point());
-        let sent = rules::sent_grand(rate, newer.point(), back, departure);
+        let rate = rules::sample_rate(oldest.point(), newest.point());
+        let sent = rules::sent_grand(rate, newest.point(), back, departure);
         let error = match version {
-            Version::TWO => as_error(rules::sent_error(rate, newer.error, back))?,
-            _ => newer.error,
+            Version::TWO => as_error(rules::sent_error(rate, newest.error, back))?,
+            _ => newest.error,
         };
         Ok(Fields {
             precedence: chosen.precedence,
@@ -460,24 +460,24 @@ impl<T: Table, O: Order> Calls for Bridge<T, O> {
         frame::write(&fields, output)
     }
 
-    /// Gives the drift over a clock's own two samples.
+    /// Gives the drift over a clock's own samples, from the oldest to the newest.
     #[cfg_attr(feature = "calls", inline(never))]
     fn drift(&mut self, port: u8) -> Result<Option<f64>, Answer> {
         let samples = self.samples(port).ok_or(OUT_OF_RANGE)?;
         Ok(samples.rate().map(rules::parts_per_million))
     }
 
-    /// Gives the grand time of a latch on the line through the chosen clock's two samples.
+    /// Gives the grand time of a latch on the line through the chosen clock's oldest and newest sample.
     #[cfg_attr(feature = "calls", inline(never))]
     fn stamp(&mut self, latch: u64) -> Result<u128, Answer> {
         if !is_local(latch) {
             return Err(OUT_OF_RANGE);
         }
-        let (_, older, newer) = self.followed()?;
-        let distance = distance(latch, newer.local);
+        let (_, oldest, newest) = self.followed()?;
+        let distance = distance(latch, newest.local);
         if distance.abs() > STAMPED_MOST {
             return Err(OUT_OF_REACH);
         }
-        as_grand(rules::stamp(older.point(), newer.point(), distance))
+        as_grand(rules::stamp(oldest.point(), newest.point(), distance))
     }
 }

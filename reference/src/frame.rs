@@ -44,7 +44,7 @@ const AT_ERROR: Range<usize> = 60..64;
 pub struct Version(pub u8);
 
 impl Version {
-    /// The version whose errorTime is the newer sample's.
+    /// The version whose errorTime is the newest sample's.
     pub const ONE: Version = Version(1);
     /// The version whose errorTime has also what version 1 leaves out for the back time.
     pub const TWO: Version = Version(2);

@@ -14,9 +14,9 @@ pub const RATE_ONE: i128 = 1 << 35;
 pub const TRIP_MOST: u64 = 1 << 39;
 /// The greatest delay that is believed or set.
 pub const DELAY_MOST: u64 = 1 << 30;
-/// The first distance from the newer sample that is too great for a send.
+/// The first distance from the newest sample that is too great for a send.
 pub const REACH_END: u64 = 1 << 39;
-/// The greatest distance from the newer sample, before or after it, that is stamped.
+/// The greatest distance from the newest sample, before or after it, that is stamped.
 pub const STAMPED_MOST: i128 = 1 << 39;
 /// The hop that stands for no clock, and that no frame is taken with.
 pub const HOP_NONE: u8 = 255;
@@ -91,7 +91,7 @@ pub fn passes_left(hop: u8) -> u8 {
     }
 }
 
-/// Gives the rate between two samples of grand time and local time.
+/// Gives the rate from an older sample of grand time and local time to a newer one.
 pub fn sample_rate(older: (u128, u64), newer: (u128, u64)) -> i128 {
     let local_spread = spread(newer.1, older.1);
     rate(sample_difference(older, newer), local_spread)
@@ -103,25 +103,25 @@ pub fn sample_difference(older: (u128, u64), newer: (u128, u64)) -> i128 {
 }
 
 /// Gives the grand time of a departure: by the samples' rate up to the back time before it, and from there on by local time.
-pub fn sent_grand(rate: i128, newer: (u128, u64), back: u64, departure: u64) -> i128 {
-    let reach = i128::from(spread(departure, newer.1));
+pub fn sent_grand(rate: i128, newest: (u128, u64), back: u64, departure: u64) -> i128 {
+    let reach = i128::from(spread(departure, newest.1));
     let stretch = reach - i128::from(back);
-    led_on(rate, newer, reach, stretch)
+    led_on(rate, newest, reach, stretch)
 }
 
-/// Gives the errorTime of version 2: the newer sample's, and what the samples' rate makes of the back time, which is missing in the grand time.
-pub fn sent_error(rate: i128, newer_error: i32, back: u64) -> i128 {
-    i128::from(newer_error) + rated(rate, i128::from(back))
+/// Gives the errorTime of version 2: the newest sample's, and what the samples' rate makes of the back time, which is missing in the grand time.
+pub fn sent_error(rate: i128, newest_error: i32, back: u64) -> i128 {
+    i128::from(newest_error) + rated(rate, i128::from(back))
 }
 
-/// Gives the stamp of a latch at a distance from the newer of two samples.
-pub fn stamp(older: (u128, u64), newer: (u128, u64), distance: i128) -> i128 {
-    led_on(sample_rate(older, newer), newer, distance, distance)
+/// Gives the stamp of a latch at a distance from the newest sample, on the line from the oldest to it.
+pub fn stamp(oldest: (u128, u64), newest: (u128, u64), distance: i128) -> i128 {
+    led_on(sample_rate(oldest, newest), newest, distance, distance)
 }
 
-/// Leads the newer sample's grand time on by a way, and by what the samples' rate makes of a stretch.
-fn led_on(rate: i128, newer: (u128, u64), way: i128, stretch: i128) -> i128 {
-    newer.0 as i128 + way + rated(rate, stretch)
+/// Leads the newest sample's grand time on by a way, and by what the samples' rate makes of a stretch.
+fn led_on(rate: i128, newest: (u128, u64), way: i128, stretch: i128) -> i128 {
+    newest.0 as i128 + way + rated(rate, stretch)
 }
 
 /// Says whether a number that was worked out is a grand time.

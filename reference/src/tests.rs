@@ -29,7 +29,7 @@ use crate::rules::{
     sent_grand, steady, DELAY_MOST, HOP_LAST, HOP_NONE, RATE_ONE, SPREAD_LEAST, SPREAD_MOST,
     STEADINESS,
 };
-use crate::samples::{Sample, Samples};
+use crate::samples::{Sample, Samples, KEPT_MOST};
 use crate::stamps::Stamps;
 use crate::times::{distance, moved, next_count, spread, GRAND_END, LOCAL_END, PART_END};
 use std::collections::HashSet;
@@ -306,8 +306,7 @@ impl Followed {
         };
         let mut bridge = capable();
         bridge.own.samples = Samples {
-            newest: Some(newer),
-            older: Some(older),
+            kept: [Some(newer), Some(older), None],
         };
         Followed {
             bridge,
@@ -488,7 +487,7 @@ fn latches_are_turned_into_twelve_digits() {
     assert_eq!(stamper.census.missing().len(), 8);
 }
 
-/// Every stamp in generated lives is less than 9 U from the line through the chosen clock's two samples.
+/// Every stamp in generated lives is less than 9 U from the line through the chosen clock's oldest and newest sample.
 #[test]
 fn stamps_lie_near_the_line() {
     let mut stamps = 0;
@@ -496,13 +495,13 @@ fn stamps_lie_near_the_line() {
         let (Some(latch), Some(stamp)) = (latches::called(line), stamp_of(reply)) else {
             return Ok(());
         };
-        let Some((older, newer)) = limits::followed(bridge).both() else {
+        let Some((oldest, newest)) = limits::followed(bridge).ends() else {
             return Err(std::io::Error::other("a stamp without two samples"));
         };
-        let run = i128::from(spread(newer.local, older.local));
-        let rise = newer.grand as i128 - older.grand as i128;
-        let risen = stamp - newer.grand as i128;
-        let off = risen * run - rise * distance(latch, newer.local);
+        let run = i128::from(spread(newest.local, oldest.local));
+        let rise = newest.grand as i128 - oldest.grand as i128;
+        let risen = stamp - newest.grand as i128;
+        let off = risen * run - rise * distance(latch, newest.local);
         assert!(off.abs() < 9 * run);
         stamps += 1;
         Ok(())
@@ -1340,10 +1339,10 @@ fn listeners_never_refuse_for_their_clock() {
             local: 1 << 34,
             error: 3,
         };
-        bridge.ports[0].record.samples.newest = Some(newest);
+        bridge.ports[0].record.samples.kept[0] = Some(newest);
         assert_eq!(bridge.stamp(1 << 34), Err(TOO_FEW_SAMPLES));
         assert_eq!(sent(&mut bridge, 7), Ok(listened(0, 7)));
-        bridge.ports[0].record.samples.older = Some(Sample {
+        bridge.ports[0].record.samples.kept[1] = Some(Sample {
             grand: newest_grand.saturating_sub(1 << 34),
             local: 0,
             error: 2,
@@ -1483,7 +1482,7 @@ fn both_ends_of_a_cable_measure_it() {
     }
     for station in [&near, &far] {
         let record = station.ports[0].record;
-        let measured = record.pair.zip(record.samples.newest);
+        let measured = record.pair.zip(record.samples.newest());
         let delay = measured.map(|((_, p), newest)| spread(p, newest.local));
         assert_eq!(delay, Some(cable));
     }
@@ -1962,7 +1961,7 @@ fn errortimes_end_at_32_bits() {
 fn both_ends_refuse_with_13() {
     let newer_grand = |sender: &mut Sender, grand: u128| {
         let samples = &mut sender.bridge.ports[0].record.samples;
-        for sample in [&mut samples.older, &mut samples.newest] {
+        for sample in &mut samples.kept {
             *sample = sample.map(|sample| Sample {
                 grand: sample.grand + grand - 100 * SECOND,
                 ..sample
@@ -2002,7 +2001,7 @@ fn hearing(version: u8) -> Listed {
         let wanted = if count == 0 { OUT_OF_SEQUENCE } else { DONE };
         assert_eq!(bridge.receive(1, &bytes, time), wanted);
         let samples = bridge.ports[0].record.samples;
-        assert_eq!(samples.both().is_some(), count >= 2);
+        assert_eq!(samples.count(), usize::from(count).min(KEPT_MOST));
     }
     bridge
 }
@@ -2040,10 +2039,8 @@ fn listeners_have_versions() {
             error: i32::MAX,
         })
     };
-    bridge.ports[0].record.samples = Samples {
-        newest: sample(100 * SECOND, 1 << 34),
-        older: sample(99 * SECOND, 0),
-    };
+    let kept = [sample(100 * SECOND, 1 << 34), sample(99 * SECOND, 0), None];
+    bridge.ports[0].record.samples = Samples { kept };
     let mut full = linked(1, None);
     for (count, departure) in (0..).zip([0, 1 << 34, LOCAL_END - 1]) {
         let wanted = Fields {
@@ -2074,7 +2071,7 @@ fn sent_in_lives(line: &[u8], reply: &[u8]) -> Option<(usize, Fields)> {
     Some((port - 1, frame::read(bytes).ok()?))
 }
 
-/// In every version 2 frame of a full bridge in generated lives, grand time and errorTime less the newer sample's are less than 10 U from the line at the departure itself; in version 1 the errorTime is the newer sample's.
+/// In every version 2 frame of a full bridge in generated lives, grand time and errorTime less the newest sample's are less than 10 U from the line at the departure itself; in version 1 the errorTime is the newest sample's.
 #[test]
 fn version_2_reaches_the_line() {
     let mut frames = [0, 0];
@@ -2086,19 +2083,19 @@ fn version_2_reaches_the_line() {
         if bridge.settings.profile == Profile::Listener {
             return Ok(());
         }
-        let Some((older, newer)) = limits::followed(bridge).both() else {
+        let Some((oldest, newest)) = limits::followed(bridge).ends() else {
             return Err(std::io::Error::other("a frame without two samples"));
         };
-        let added = i128::from(fields.error) - i128::from(newer.error);
+        let added = i128::from(fields.error) - i128::from(newest.error);
         if fields.version == Version(1) {
             assert_eq!(added, 0);
             frames[0] += 1;
             return Ok(());
         }
-        let run = i128::from(spread(newer.local, older.local));
-        let rise = newer.grand as i128 - older.grand as i128;
-        let risen = fields.grand as i128 + added - newer.grand as i128;
-        let off = risen * run - rise * i128::from(spread(fields.local, newer.local));
+        let run = i128::from(spread(newest.local, oldest.local));
+        let rise = newest.grand as i128 - oldest.grand as i128;
+        let risen = fields.grand as i128 + added - newest.grand as i128;
+        let off = risen * run - rise * i128::from(spread(fields.local, newest.local));
         assert!(off.abs() < 10 * run);
         frames[1] += 1;
         Ok(())

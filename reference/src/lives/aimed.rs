@@ -1,6 +1,7 @@
 //! Lives in which each frame is aimed at some limit of the rules.
 
 use super::extras;
+use super::limits;
 use super::panel;
 use super::pen::Pen;
 use super::plans;
@@ -36,6 +37,8 @@ const DELAY_EDGES: [u64; 6] = [
 const KEPT: u64 = 4_000;
 /// The spread that every spread with a rate halfway between two whole ones is a multiple of.
 const HALF_RUN: u64 = 1 << 36;
+/// How many halves to each side of the line of two samples a third is aimed at.
+const HALVES_BESIDE: u64 = 100;
 
 /// What is planned for the next frame of each port.
 struct Plans {
@@ -123,7 +126,7 @@ impl Plans {
             error: aim_error(random, &port.record.samples, (grand, taken_at), back),
         };
         self.delays[place] = port.fixed.unwrap_or_else(|| next_delay(random));
-        let way = aim_way(random, delay, self.delays[place]);
+        let way = aim_way(random, &port.record.samples, p, [delay, self.delays[place]]);
         let arrival = if random.often(40) {
             random.within(0, self.delays[place])
         } else {
@@ -151,10 +154,12 @@ fn next_delay(random: &mut Random) -> u64 {
     }
 }
 
-/// Gives the way to the next arrival, such that spreads of arrivals or of samples are at a limit.
-fn aim_way(random: &mut Random, delay: u64, next_delay: u64) -> i128 {
+/// Gives the way to the next arrival, such that spreads of arrivals or of samples are at a limit, by the samples before and the delays of this sample and of the next.
+fn aim_way(random: &mut Random, samples: &Samples, p: u64, delays: [u64; 2]) -> i128 {
+    let [delay, next_delay] = delays;
     let samples_apart = i128::from(next_delay) - i128::from(delay);
-    match random.below(20) {
+    let local = moved(p, -i128::from(delay));
+    match random.below(21) {
         0 | 1 => i128::from(random.pick(&SPREAD_EDGES)) + samples_apart,
         2 => i128::from(random.pick(&SPREAD_EDGES)),
         3 | 8 => i128::from(random.within(1 << 19, 1 << 27) * KEPT) + samples_apart,
@@ -162,11 +167,12 @@ fn aim_way(random: &mut Random, delay: u64, next_delay: u64) -> i128 {
         5 => i128::from(random.within(1 << 19, 1 << 27) * (KEPT - 1)),
         6 => i128::from(random.below(LOCAL_END)),
         7 => i128::from(random.sized(41)),
-        17 | 18 => i128::from(half_run(random)) + samples_apart,
+        17 | 18 => i128::from(half_way(random, samples, local)) + samples_apart,
         19 => {
             let run = half_run(random);
             i128::from(run) + half_difference(random, run)
         }
+        20 => i128::from(limits::way_from_oldest(random, samples, local)) + samples_apart,
         _ => i128::from(random.within(SPREAD_LEAST, SPREAD_MOST)),
     }
 }
@@ -176,10 +182,33 @@ fn half_run(random: &mut Random) -> u64 {
     HALF_RUN * random.within(1, SPREAD_MOST / HALF_RUN)
 }
 
+/// Gives the spread from a sample at a local time to the next, such that this is at such a spread from the newest one that is kept, which is then the oldest that stays, or else from the sample itself.
+fn half_way(random: &mut Random, samples: &Samples, local: u64) -> u64 {
+    let run = samples
+        .newest()
+        .map_or(0, |newest| spread(local, newest.local));
+    let wanted = half_run(random);
+    let way = wanted.checked_sub(run).filter(|way| *way >= SPREAD_LEAST);
+    way.unwrap_or(wanted)
+}
+
 /// Gives a difference whose rate over such a spread is halfway: for each part of the spread an odd number.
 fn half_difference(random: &mut Random, run: u64) -> i128 {
     let odd = 2 * random.about(HALF_RUN / KEPT / 2 - 1) + 1;
     i128::from(run / HALF_RUN) * odd
+}
+
+/// Gives a grand time that makes the rate from the oldest sample that stays halfway, and is near the line of the two that are kept, where the spread from the oldest is such a one.
+fn half_grand(random: &mut Random, samples: &Samples, local: u64) -> Option<i128> {
+    let (oldest, newest) = samples.oldest_to_stay().zip(samples.newest())?;
+    let run = spread(local, oldest.local);
+    if run == 0 || !run.is_multiple_of(HALF_RUN) {
+        return None;
+    }
+    let parts = i128::from(run / HALF_RUN);
+    let gained = rules::sample_difference(oldest.point(), newest.point());
+    let odd = 2 * (gained / parts / 2 + random.about(HALVES_BESIDE)) + 1;
+    Some(oldest.grand as i128 + i128::from(run) + parts * odd)
 }
 
 /// Gives a departure of the neighbour, such that its rate is halfway, at a limit or usual.
@@ -308,9 +337,9 @@ fn aim_count(random: &mut Random, last: Option<u8>) -> u8 {
     }
 }
 
-/// Gives a grand time whose spread from the newest sample is at a limit or usual.
+/// Gives a grand time whose spread from the newest sample is at a limit or usual, or whose rate from the oldest that stays is halfway.
 fn aim_grand(random: &mut Random, samples: &Samples, local: u64) -> u128 {
-    let Some(newest) = samples.newest else {
+    let Some(newest) = samples.newest() else {
         return start_grand(random);
     };
     let local_spread = spread(local, newest.local);
@@ -326,7 +355,9 @@ fn aim_grand(random: &mut Random, samples: &Samples, local: u64) -> u128 {
         6 => i128::from(random.bits()),
         _ => random.about(local_spread / KEPT),
     };
-    let grand = newest.grand as i128 + i128::from(local_spread) + difference;
+    let aimed = newest.grand as i128 + i128::from(local_spread) + difference;
+    let halfway = half_grand(random, samples, local).filter(|_| random.often(500));
+    let grand = halfway.unwrap_or(aimed);
     if (0..GRAND_END as i128).contains(&grand) && !random.often(15) {
         grand as u128
     } else {
@@ -360,7 +391,7 @@ fn aim_own(pen: &mut Pen) {
         .map_or_else(|| start_local(random), |heard| heard.time);
     let grand = aim_grand(random, &own.samples, before);
     let count = aim_count(random, own.last.map(|heard| heard.count));
-    let now = moved(before, aim_way(random, 0, 0));
+    let now = moved(before, aim_way(random, &own.samples, before, [0, 0]));
     let (seconds, fraction) = parts(grand);
     pen.own_clock(count, seconds, fraction, now);
     if pen.random.often(200) {

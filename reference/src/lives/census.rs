@@ -1,9 +1,10 @@
-//! Counts how often each call gave each answer, how the frames that were taken came by their held hops, which way rates were rounded, what places of the ranking showed, which numbers of passes left were printed, what listeners did and how they were heard, how versions fared, and where scales left their range.
+//! Counts how often each call gave each answer, how the frames that were taken came by their held hops, which way rates were rounded, what places of the ranking showed, which numbers of passes left were printed, what listeners did and how they were heard, how versions fared, what became of samples, and where scales left their range.
 
 use super::latches;
 use super::limits;
 use super::listener_census::ListenerCensus;
 use super::pen::answer_of;
+use super::sample_census::SampleCensus;
 use super::version_census::VersionCensus;
 use crate::answer::{
     Answer, BAD_DELAY, BAD_LINE, BEYOND_RANGE, DONE, NO_CLOCK, OUT_OF_RANGE, OUT_OF_REACH, TOO_FAR,
@@ -24,7 +25,7 @@ const LETTERS: [u8; 11] = *b"SPVLORATDFW";
 /// How many answers there are.
 pub(super) const ANSWERS: usize = BAD_LINE as usize + 1;
 
-/// Where a latch lies: nowhere as long as there are no two samples, else by the newer one.
+/// Where a latch lies: nowhere as long as there are no two samples, else by the newest one.
 const SIDES: [&str; 4] = ["nowhere", "before", "at", "after"];
 const NOWHERE: usize = 0;
 const BEFORE: usize = 1;
@@ -78,10 +79,10 @@ impl fmt::Display for StampCensus {
     }
 }
 
-/// Gives the side on which a latch lies of the newer sample of the clock that a bridge follows.
+/// Gives the side on which a latch lies of the newest sample of the clock that a bridge follows.
 fn side(latch: u64, bridge: &Listed) -> usize {
-    match limits::followed(bridge).both() {
-        Some((_, newer)) if is_local(latch) => match distance(latch, newer.local).cmp(&0) {
+    match limits::followed(bridge).ends() {
+        Some((_, newest)) if is_local(latch) => match distance(latch, newest.local).cmp(&0) {
             Ordering::Less => BEFORE,
             Ordering::Equal => AT,
             Ordering::Greater => AFTER,
@@ -171,9 +172,9 @@ impl RateCensus {
     /// Counts what a line brought, where it was taken, and notes the pairs after it.
     fn count(&mut self, line: &[u8], reply: &[u8], bridge: &Listed) {
         if let Some(port) = sampled_port(line).filter(|_| answer_of(reply) == DONE) {
-            if let Some((older, newer)) = bridge.samples(port).and_then(Samples::both) {
-                let difference = rules::sample_difference(older.point(), newer.point());
-                let run = spread(newer.local, older.local);
+            if let Some((oldest, newest)) = bridge.samples(port).and_then(Samples::ends) {
+                let difference = rules::sample_difference(oldest.point(), newest.point());
+                let run = spread(newest.local, oldest.local);
                 self.counts[CLOCKS][turn(difference, run)] += 1;
             }
             self.count_neighbour(port, bridge);
@@ -225,7 +226,7 @@ impl fmt::Display for RateCensus {
 }
 
 /// Gives the port whose clock a line brings a sample of.
-fn sampled_port(line: &[u8]) -> Option<u8> {
+pub(super) fn sampled_port(line: &[u8]) -> Option<u8> {
     let mut fields = line.split(|letter| *letter == b' ');
     match fields.next()? {
         b"O" => Some(OWN),
@@ -572,6 +573,7 @@ pub struct Census {
     passes: PassesCensus,
     listeners: ListenerCensus,
     versions: VersionCensus,
+    samples: SampleCensus,
     timestamps: TimestampCensus,
 }
 
@@ -585,6 +587,7 @@ impl Census {
         self.passes.count(line, reply);
         self.listeners.count(line, reply, bridge);
         self.versions.count(line, reply, bridge);
+        self.samples.count(line, reply, bridge);
         self.timestamps.count(line, reply);
         if reply == b"0E" {
             self.bad += 1;
@@ -632,6 +635,7 @@ impl Census {
             && self.passes.missing().is_empty()
             && self.listeners.missing().is_empty()
             && self.versions.missing().is_empty()
+            && self.samples.missing().is_empty()
             && self.timestamps.missing().is_empty()
             && self.stamps.counts[NOWHERE][usize::from(OUT_OF_RANGE)] > 0
     }
@@ -662,6 +666,7 @@ impl fmt::Display for Census {
         writeln!(out, "D    readings {}", self.readings)?;
         write!(out, "{}{}{}", self.hops, self.rates, self.ranking)?;
         write!(out, "{}{}{}", self.passes, self.listeners, self.versions)?;
+        write!(out, "{}", self.samples)?;
         writeln!(out, "no call (14) {}", self.bad)?;
         writeln!(out, "lines {}", self.lines)?;
         writeln!(out, "answers missing {:?}", self.missing())

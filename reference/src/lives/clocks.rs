@@ -1,4 +1,4 @@
-//! Clocks that start somewhere and drift, and the ticks in which a life goes on.
+//! Clocks that start somewhere, drift and can bend, and the ticks in which a life goes on.
 
 use super::random::Random;
 use crate::times::{next_count, parts, GRAND_END, LOCAL_END};
@@ -41,6 +41,13 @@ impl Clock {
     /// Moves a grand clock, often to just before its end.
     pub fn move_grand(&mut self, random: &mut Random, tick: u64, time: i128) {
         self.start = grand_start(random, tick) - time;
+    }
+
+    /// Bends the clock: from a true time on it has another drift.
+    pub fn bend(&mut self, random: &mut Random, wild: bool, time: i128) {
+        let reading = self.at(time);
+        self.drift = drift(random, wild);
+        self.start += reading - self.at(time);
     }
 
     /// Gives the clock's reading at a true time.

@@ -79,23 +79,28 @@ fn arrive(pen: &mut Pen, precedence: u128) {
 }
 
 /// Gives the count that follows and the arrival of the frame before, or any where none was heard.
-fn followed(random: &mut Random, record: &Record) -> (u8, u64) {
+pub(super) fn followed(random: &mut Random, record: &Record) -> (u8, u64) {
     match record.last {
         Some(heard) => (next_count(heard.count), heard.time),
         None => (random.bits() as u8, random.below(LOCAL_END)),
     }
 }
 
-/// Gives how long after a frame the next one arrives, such that its sample doesn't stand alone.
+/// Gives how long after a frame the next one arrives, such that its sample mostly doesn't stand alone.
 fn next_way(random: &mut Random) -> u64 {
-    let most = random.pick(&[2 * SPREAD_LEAST, SPREAD_MOST / 32, SPREAD_MOST]);
+    let most = random.pick(&[
+        2 * SPREAD_LEAST,
+        SPREAD_MOST / 32,
+        SPREAD_MOST / 2,
+        SPREAD_MOST,
+    ]);
     random.within(SPREAD_LEAST, most)
 }
 
 /// Gives the grand time and the local time of a port's next sample, at a rate within the limits of both signs, at one of these, or 0.
 fn next_point(random: &mut Random, port: &Port, p: u64) -> (u128, u64) {
     let local = moved(p, -i128::from(port.fixed.unwrap_or(0)));
-    let Some(newest) = port.record.samples.newest else {
+    let Some(newest) = port.record.samples.newest() else {
         let before_end = GRAND_END - 1 - u128::from(random.sized(BEFORE_END_BITS));
         let anywhere = u128::from(random.bits());
         return (random.pick(&[anywhere, before_end]), local);

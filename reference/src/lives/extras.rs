@@ -121,16 +121,15 @@ pub fn edge_send(pen: &mut Pen) {
     };
     let back = pen.bridge().settings.back;
     let samples = followed(pen.bridge());
-    let Some(newest) = samples.newest else {
+    let Some(newest) = samples.newest() else {
         let departure = any_local(&mut pen.random);
         pen.send(port, departure, FRAME_LEN as u64);
         return;
     };
-    let top = samples.both().and_then(|(older, newer)| {
-        let rate = rules::sample_rate(older.point(), newer.point());
+    let top = samples.rate().and_then(|rate| {
         let unfit = |reach| {
-            let departure = moved(newer.local, reach);
-            !rules::fits_grand(rules::sent_grand(rate, newer.point(), back, departure))
+            let departure = moved(newest.local, reach);
+            !rules::fits_grand(rules::sent_grand(rate, newest.point(), back, departure))
         };
         first_where(0, i128::from(REACH_END) - 1, unfit)
     });

@@ -19,7 +19,7 @@ pub fn called(line: &[u8]) -> Option<u64> {
 
 /// Gives a latch near or far from the newest of some samples, often at a limit, and now and then out of range.
 pub fn aimed(random: &mut Random, samples: &Samples) -> u64 {
-    match samples.newest {
+    match samples.newest() {
         Some(newest) if !random.often(50) => {
             let distance = aimed_distance(random, samples);
             moved(newest.local, distance)
@@ -36,7 +36,7 @@ fn aimed_distance(random: &mut Random, samples: &Samples) -> i128 {
         return random.pick(&ends) + random.pick(&[-2, -1, -1, 0, 0, 1]);
     }
     let side = random.pick(&[-1, 1]);
-    match random.below(13) {
+    match random.below(14) {
         0 => 0,
         1 => side,
         2 => random.about(20),
@@ -46,16 +46,23 @@ fn aimed_distance(random: &mut Random, samples: &Samples) -> i128 {
         7 => side * HALF_ROUND + random.about(1),
         8 => i128::from(random.below(LOCAL_END)),
         9 => side * i128::from(random.below(STAMPED_MOST as u64)),
-        10 => older_distance(samples),
+        10 => oldest_distance(samples),
+        11 => middle_distance(samples),
         _ => side * i128::from(random.sized(STAMPED_BITS)),
     }
 }
 
-/// Gives the distance of the older of two samples, or none where there is one alone.
-fn older_distance(samples: &Samples) -> i128 {
+/// Gives the distance of the oldest of some samples, or none where there is one alone.
+fn oldest_distance(samples: &Samples) -> i128 {
     samples
-        .both()
-        .map_or(0, |(older, newer)| distance(older.local, newer.local))
+        .ends()
+        .map_or(0, |(oldest, newest)| distance(oldest.local, newest.local))
+}
+
+/// Gives the distance of the sample before the newest, or none where there is one alone.
+fn middle_distance(samples: &Samples) -> i128 {
+    let two = samples.oldest_to_stay().zip(samples.newest());
+    two.map_or(0, |(before, newest)| distance(before.local, newest.local))
 }
 
 /// Finds the least distance within reach whose stamp is not below zero, where some stamps within reach are.
@@ -70,7 +77,7 @@ fn first_beyond_end(samples: &Samples) -> Option<i128> {
 
 /// Finds the least distance within reach, but not its very least, whose stamp is a number or more.
 fn first_stamp_from(samples: &Samples, least: i128) -> Option<i128> {
-    let (older, newer) = samples.both()?;
-    let from_there = |distance| rules::stamp(older.point(), newer.point(), distance) >= least;
+    let (oldest, newest) = samples.ends()?;
+    let from_there = |distance| rules::stamp(oldest.point(), newest.point(), distance) >= least;
     first_where(-STAMPED_MOST, STAMPED_MOST, from_there).filter(|first| *first > -STAMPED_MOST)
 }

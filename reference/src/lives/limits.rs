@@ -1,9 +1,19 @@
-//! What every part of a life aims by: numbers at the ends of their range, the samples that a bridge follows, its links, its ranking, and where something first holds.
+//! What every part of a life aims by: numbers at the ends of their range, spreads from the oldest sample that stays, the samples that a bridge follows, its links, its ranking, and where something first holds.
 
 use super::random::Random;
 use crate::bridge::{Chosen, Listed, OWN};
+use crate::rules::{SPREAD_LEAST, SPREAD_MOST};
 use crate::samples::Samples;
-use crate::times::{LOCAL_END, PART_END};
+use crate::times::{spread, LOCAL_END, PART_END};
+
+/// The spreads from the oldest sample that stays at their limit, to both sides.
+const OLDEST_EDGES: [u64; 5] = [
+    SPREAD_MOST - 1,
+    SPREAD_MOST,
+    SPREAD_MOST,
+    SPREAD_MOST + 1,
+    SPREAD_MOST + 1,
+];
 
 /// Gives a local time, often one at an end of the circle or out of range.
 pub fn any_local(random: &mut Random) -> u64 {
@@ -27,6 +37,15 @@ pub fn any_part(random: &mut Random) -> u64 {
         3 => random.sized(64),
         _ => random.below(PART_END),
     }
+}
+
+/// Gives the spread from a clock's next sample, at a local time, to the one after it, such that this is at the limit from the newest, which is then the oldest that stays.
+pub fn way_from_oldest(random: &mut Random, samples: &Samples, local: u64) -> u64 {
+    let run = samples
+        .newest()
+        .map_or(0, |newest| spread(local, newest.local));
+    let wanted = random.pick(&OLDEST_EDGES);
+    wanted.checked_sub(run).unwrap_or(SPREAD_LEAST)
 }
 
 /// Gives the samples of the clock that a bridge follows, none where it follows none.

@@ -367,7 +367,7 @@ fn is_listeners(fields: &Fields) -> bool {
 
 /// Says whether the clock that a bridge has chosen is a listener's: of the worst precedence, held at 255, with grand time zero.
 fn follows_listener(bridge: &Listed) -> bool {
-    let newest = limits::followed(bridge).newest;
+    let newest = limits::followed(bridge).newest();
     bridge.best().is_some_and(|clock| {
         (clock.precedence, clock.hop) == (PRECEDENCE_WORST, HOP_NONE)
             && newest.is_some_and(|sample| sample.grand == 0)
@@ -400,6 +400,6 @@ fn measured(bridge: &Listed, place: usize) -> Option<u64> {
         .get(place)
         .filter(|port| port.fixed.is_none())?;
     let (_, p) = port.record.pair?;
-    let newest = port.record.samples.newest?;
+    let newest = port.record.samples.newest()?;
     Some(spread(p, newest.local)).filter(|delay| *delay > 0)
 }

@@ -1,6 +1,7 @@
 //! A seeded generator of lines that live through a bridge's life, and through many of them.
 
 mod aimed;
+mod bends;
 pub mod census;
 mod clocks;
 mod errors;
@@ -17,6 +18,7 @@ mod pen;
 mod plans;
 pub(crate) mod random;
 mod rivals;
+pub mod sample_census;
 mod spoil;
 pub mod stamped;
 mod timestamps;
@@ -29,15 +31,17 @@ use random::Random;
 use std::io;
 
 /// Of a hundred lives, how many are of a network of drifting neighbours.
-const NETWORK_SHARE: u64 = 28;
+const NETWORK_SHARE: u64 = 25;
 /// Of a hundred lives, how many are of frames aimed at the limits.
 const AIMED_SHARE: u64 = 15;
 /// Of a hundred lives, how many are of clocks that stand close to one another.
-const RIVALS_SHARE: u64 = 15;
+const RIVALS_SHARE: u64 = 14;
 /// Of a hundred lives, how many are at cables with a listener.
-const LISTENERS_SHARE: u64 = 23;
+const LISTENERS_SHARE: u64 = 21;
 /// Of a hundred lives, how many are of errorTimes about the ends of 32 bits.
-const ERRORS_SHARE: u64 = 12;
+const ERRORS_SHARE: u64 = 11;
+/// Of a hundred lives, how many are of clocks that bend.
+const BENDS_SHARE: u64 = 7;
 
 /// A kind of life, which writes its lines.
 type Life = fn(&mut Pen);
@@ -58,12 +62,13 @@ pub fn lives(lines: u64, seed: u64, sink: Sink) -> io::Result<()> {
 
 /// Gives the kind of life that a number below a hundred stands for, by the shares of the kinds.
 fn kind_of_life(chance: u64) -> Life {
-    let shares: [(u64, Life); 5] = [
+    let shares: [(u64, Life); 6] = [
         (NETWORK_SHARE, network::live),
         (AIMED_SHARE, aimed::live),
         (RIVALS_SHARE, rivals::live),
         (LISTENERS_SHARE, listeners::live),
         (ERRORS_SHARE, errors::live),
+        (BENDS_SHARE, bends::live),
     ];
     let mut before = 0;
     for (share, live) in shares {

@@ -21,6 +21,8 @@ const ECHO_KEPT: i128 = 1 << 38;
 
 /// In a thousand neighbours, how many have errorTimes about the ends of 32 bits.
 const ERRING: u64 = 150;
+/// In a thousand ticks, in how many a grand master's clock bends.
+const BENDING: u64 = 50;
 
 /// A grand master somewhere behind the neighbours.
 struct Master {
@@ -195,6 +197,9 @@ impl Network {
     /// Lets one tick pass.
     fn step(&mut self, pen: &mut Pen) {
         self.time += clocks::next_tick(&mut pen.random, self.tick);
+        if pen.random.often(BENDING) {
+            self.bend(&mut pen.random);
+        }
         for place in 0..self.neighbours.len() {
             if self.neighbours[place].silent > 0 {
                 self.neighbours[place].silent -= 1;
@@ -211,6 +216,13 @@ impl Network {
             }
         }
         self.happen(pen);
+    }
+
+    /// Gives a grand master's clock another drift from now on.
+    fn bend(&mut self, random: &mut Random) {
+        let master = random.index(self.masters.len());
+        let clock = &mut self.masters[master].clock;
+        clock.bend(random, self.wild, self.time);
     }
 
     /// Gives a time within the tick, a given part of it after its start.

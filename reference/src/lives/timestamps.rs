@@ -73,7 +73,7 @@ fn import(pen: &mut Pen) {
 
 /// Exports a grand time, often that of the chosen clock's newest sample, imports what came out, and exports that.
 fn there_and_back(pen: &mut Pen) {
-    let newest = followed(pen.bridge()).newest;
+    let newest = followed(pen.bridge()).newest();
     let (seconds, fraction) = match newest {
         Some(sample) if pen.random.often(500) => parts(sample.grand),
         _ => {

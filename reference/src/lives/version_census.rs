@@ -377,20 +377,20 @@ fn taken_kinds(plan: &Plan) -> [(usize, bool); 6] {
 
 /// What the frame of version 2 would be for the clock that a bridge follows.
 struct Rest {
-    /// What is added to the newer sample's errorTime.
+    /// What is added to the newest sample's errorTime.
     added: i128,
     /// What is sent as errorTime, if it can be.
     sent: i128,
 }
 
-/// Gives what version 2 sends for the clock that a bridge follows, where that has two samples.
+/// Gives what version 2 sends for the clock that a bridge follows, where that has at least two samples.
 fn rest_of(bridge: &Listed) -> Option<Rest> {
-    let (older, newer) = limits::followed(bridge).both()?;
-    let rate = rules::sample_rate(older.point(), newer.point());
+    let samples = limits::followed(bridge);
+    let (rate, newest) = samples.rate().zip(samples.newest())?;
     let back = bridge.settings.back;
     Some(Rest {
         added: rules::sent_error(rate, 0, back),
-        sent: rules::sent_error(rate, newer.error, back),
+        sent: rules::sent_error(rate, newest.error, back),
     })
 }
 
@@ -401,7 +401,7 @@ fn sent_in_one(line: &[u8], reply: &[u8], bridge: &Listed) -> [(usize, bool); 2]
     [(SENT_ONE, sent), (SENT_ONE_INSTEAD, sent && refused_in_two)]
 }
 
-/// Gives which kinds a send in version 2 is of, where there were two samples.
+/// Gives which kinds a send in version 2 is of, where there were at least two samples.
 fn sent_in_two(line: &[u8], reply: &[u8], bridge: &Listed) -> Option<[(usize, bool); 8]> {
     let rest = rest_of(bridge)?;
     let sent = sent_in(line, reply);

@@ -8,8 +8,8 @@ use super::random::Random;
 use crate::bridge::{Plan, PORTS_MOST};
 use crate::frame::{Version, FRAME_LEN};
 use crate::rules;
-use crate::samples::Samples;
-use crate::times::{moved, spread};
+use crate::samples::{Sample, Samples};
+use crate::times::moved;
 
 /// Wrong versions at the ends of a byte and beside the known ones.
 const WRONG: [u8; 3] = [0, 3, u8::MAX];
@@ -91,7 +91,7 @@ pub fn with_wrong_version(random: &mut Random, mut plan: Plan) -> Plan {
 
 /// Sends at every port that has a link, with one departure soon after the newest sample that is followed, so that both versions tell of the same.
 pub fn send_at_all(pen: &mut Pen) {
-    let Some(newest) = limits::followed(pen.bridge()).newest else {
+    let Some(newest) = limits::followed(pen.bridge()).newest() else {
         return;
     };
     let soon = i128::from(pen.random.sized(SOON_BITS));
@@ -126,8 +126,12 @@ pub fn edge_error(
 
 /// Gives what version 2 adds to the errorTime of a clock's next sample, where that doesn't stand alone.
 fn rest_after(samples: &Samples, next: (u128, u64), back: u64) -> Option<i128> {
-    let older = samples.newest?.point();
-    let difference = rules::sample_difference(older, next);
-    let run = spread(next.1, older.1);
-    rules::steady(difference, run).then(|| rules::sent_error(rules::rate(difference, run), 0, back))
+    let mut after = *samples;
+    let next = Sample {
+        grand: next.0,
+        local: next.1,
+        error: 0,
+    };
+    after.take(next, true);
+    Some(rules::sent_error(after.rate()?, 0, back))
 }
