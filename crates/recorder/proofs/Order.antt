@@ -24,7 +24,7 @@ use Rattle.recorder.specs.Demands.{NoEarlier}
 use Rattle.recorder.specs.declared.Stamped.the-variants.{At}
 use Rattle.numbers.proofs.Ring.{same, split, of-pos, of-neg, neg-pos, minus-is, sub-lt, sub-ge, sub-ge2, sub-+, sub-*, sub-neg-is}
 use Rattle.samples.proofs.KeepLaws.{between-small}
-use Rattle.times.proofs.TimeLaws.{since-lt, on-and-on}
+use Rattle.times.proofs.TimeLaws.{on-and-on}
 use Rattle.recorder.proofs.DistanceLaws.{way-on, way-back, there-and-back}
 use Rattle.recorder.proofs.StampLaws.{read-off, read-at}
 use Rattle.recorder.proofs.Near.{chosen-ends}

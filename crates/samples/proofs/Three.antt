@@ -1,14 +1,14 @@
 -- What the test against the oldest that stays can tell. The limits hold from it, however the clock bends, unless the spread is too long; so up to half a
 -- second three samples stand, and where frames lie more than a quarter of a second apart, one of any two samples in a row stands alone.
-use mathlib.Core.Path.{_≡_, refl, sym, ap, subst, _∙_}
-use mathlib.Core.Bool.{Bool, true, _&&_, cond}
+use mathlib.Core.Path.{_≡_, refl, ap, subst, _∙_}
+use mathlib.Core.Bool.{true}
 use mathlib.Core.Logic.{_⊎_, inl, inr, ⊎-elim}
 use Prim.Native.Nat.{ℕ, _+_, _*_, _^_, _<_, _≤_}
 use native.Mathlib.Omega.{arith}
 use lib.IntN.{ℤ, pos, natAbs, _+ℤ_, _-ℤ_}
 use Rattle.times.specs.Times.{circle, units}
 use Rattle.samples.specs.Rate.{shortestSpread, longestSpread, perGain}
-use Rattle.samples.specs.Keep.{spreadOf, riseOf, gainedOf, limitsBetween, besideTwo, keptOf, howMany, endsOf}
+use Rattle.samples.specs.Keep.{spreadOf, riseOf, gainedOf, besideTwo, keptOf, howMany, endsOf}
 use Rattle.samples.specs.declared.Sample.{Sample}
 use Rattle.samples.specs.declared.Samples.{Samples}
 use Rattle.samples.specs.declared.Samples.the-variants.{Empty, One, Two, Three}

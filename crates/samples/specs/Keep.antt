@@ -11,7 +11,6 @@ use Rattle.samples.specs.declared.Samples.the-variants.{Empty, One, Two,
 use Rattle.samples.specs.declared.Ends.{Ends}
 use Rattle.samples.specs.declared.Ends.the-variants.{Few, Both}
 use Rattle.samples.specs.declared.Gain.{Gain}
-use Rattle.samples.specs.declared.Gain.the-variants.{Within, Outside}
 
 -- from a sample a to a later one b: S, the spread of local time; the spread of grand time over all 80 bits; d, what grand time gained
 abbrev pub spreadOf : Sample → Sample → ℕ

@@ -7,7 +7,7 @@ use Rattle.samples.specs.Keep.{spreadOf}
 use Rattle.samples.specs.declared.Sample.{Sample}
 use Rattle.timeline.specs.Line.{lineAt, offOf}
 use Rattle.timeline.specs.Sent.{reachOf}
-use Rattle.timeline.specs.Jitter.{Between, AlwaysBetween, dueOf, CallBetween, EveryAge, Course, EveryCall}
+use Rattle.timeline.specs.Jitter.{Between, AlwaysBetween, dueOf, CallBetween, EveryAge, EveryCall}
 use Rattle.numbers.proofs.Ring.{same, neg-pos, minus-is}
 use Rattle.timeline.proofs.Chain.{between-samples}
 
