@@ -9,7 +9,8 @@ use mir.Syntax.{w32}
 use mir.Val.{ofZ}
 use Rattle.times.specs.Times.{circle, second, sinceOf, units, errorOf}
 use Rattle.samples.specs.Rate.{Limits, steepest}
-use Rattle.samples.specs.Keep.{spreadOf, riseOf, gainedOf, gainBetween, rateBetween, limitsBetween, besideOne, besideTwo, keptOf, OldestIs, NewestIs, howMany, endsOf, LawfulSample, LawfulEnds, LawfulSamples}
+use Rattle.samples.specs.Keep.{spreadOf, riseOf, gainedOf, gainBetween, rateBetween, limitsBetween, besideOne, besideTwo, keptOf, howMany, endsOf, LawfulSample, LawfulEnds, LawfulSamples}
+use Rattle.samples.specs.Demands.{OldestIs, NewestIs}
 use Rattle.samples.specs.declared.Sample.{Sample}
 use Rattle.samples.specs.declared.Samples.{Samples}
 use Rattle.samples.specs.declared.Samples.the-variants.{Empty, One, Two, Three}

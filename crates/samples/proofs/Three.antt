@@ -8,10 +8,11 @@ use native.Mathlib.Omega.{arith}
 use lib.IntN.{ℤ, pos, natAbs, _+ℤ_, _-ℤ_}
 use Rattle.times.specs.Times.{circle, units}
 use Rattle.samples.specs.Rate.{shortestSpread, longestSpread, perGain}
-use Rattle.samples.specs.Keep.{spreadOf, riseOf, gainedOf, besideTwo, keptOf, howMany, endsOf}
+use Rattle.samples.specs.Keep.{spreadOf, riseOf, gainedOf, besideTwo, keptOf, endsOf}
+use Rattle.samples.specs.Demands.{Alone, Farther}
 use Rattle.samples.specs.declared.Sample.{Sample}
 use Rattle.samples.specs.declared.Samples.{Samples}
-use Rattle.samples.specs.declared.Samples.the-variants.{Empty, One, Two, Three}
+use Rattle.samples.specs.declared.Samples.the-variants.{Three}
 use Rattle.samples.specs.declared.Ends.the-variants.{Few}
 use Rattle.times.proofs.TimeLaws.{on-and-on}
 use Rattle.numbers.proofs.Ring.{same, split, neg-pos, sub-+, sub-neg-is, natAbs-+}
@@ -59,17 +60,6 @@ module _ (a b new : Sample) (held : Meet a b) (met : Meet b new) where
   -- and alone where both stretches are longer than a quarter of a second
   far-apart : 2 ^ 38 < spreadOf a b → 2 ^ 38 < spreadOf b new → Meet a new → ⊥
   far-apart h k whole = omega (arith, spreads-add, whole .high)
-
--- one sample is kept
-abbrev pub Alone : Samples → Type 0
-Alone samples = howMany samples ≡ 1
-
--- a sample lies farther than n after the newest of those that are kept
-abbrev pub Farther : ℕ → Samples → Sample → Type 0
-Farther n Empty new = Unit {0}
-Farther n (One a) new = n < spreadOf a new
-Farther n (Two a b) new = n < spreadOf b new
-Farther n (Three a b c) new = n < spreadOf c new
 
 -- FRAMES MORE THAN A QUARTER OF A SECOND APART: of any two samples in a row, one stands alone
 pub either-alone : (old : Samples) (a b : Sample) → Farther (2 ^ 38) old a → 2 ^ 38 < spreadOf a b → Alone (keptOf old true a) ⊎ Alone (keptOf (keptOf old true a) true b)

@@ -1,5 +1,4 @@
 -- Step 4, which samples are kept, and the two of them that a line is read off.
-use mathlib.Core.Path.{_≡_}
 use mathlib.Core.Bool.{Bool, cond, _&&_}
 use Prim.Native.Nat.{ℕ, _^_, _<_}
 use lib.IntN.{ℤ, pos, _-ℤ_}
@@ -59,19 +58,6 @@ howMany Empty = 0
 howMany (One a) = 1
 howMany (Two a b) = 2
 howMany (Three a b c) = 3
-
--- the oldest of them is this one, and the newest
-abbrev pub OldestIs : Sample → Samples → Type 0
-OldestIs old Empty = ⊥
-OldestIs old (One a) = a ≡ old
-OldestIs old (Two a b) = a ≡ old
-OldestIs old (Three a b c) = a ≡ old
-
-abbrev pub NewestIs : Sample → Samples → Type 0
-NewestIs new Empty = ⊥
-NewestIs new (One a) = a ≡ new
-NewestIs new (Two a b) = b ≡ new
-NewestIs new (Three a b c) = c ≡ new
 
 -- too few samples to read a line off, or the oldest and the newest that are kept
 unfoldable pub endsOf : Samples → Ends

@@ -1,2 +1,3 @@
 pub mod Rate
 pub mod Keep
+pub mod Demands
