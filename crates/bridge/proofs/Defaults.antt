@@ -8,7 +8,7 @@ use Rattle.numbers.specs.Whole.{nearestDiv}
 use Rattle.times.specs.Times.{second}
 use Rattle.timeline.specs.Jitter.{AlwaysBetween, CallBetween, EveryAge, EveryCall}
 use Rattle.bridge.specs.Setup.{defaultBack}
-use Rattle.timeline.proofs.Jitter.{jitter-between, jitter-most, goodAge, call-between, call-most, ages-between, ages-most, calls-between, calls-most}
+use Rattle.timeline.proofs.Jitter.{jitter-between, jitter-most, goodAge, call-between, call-most, ages-between, ages-most, ages-room, calls-between, calls-room}
 
 -- so many milliseconds in units, to the nearest one
 abbrev pub milliseconds : ℕ → ℤ
@@ -66,18 +66,14 @@ pub default-ages : EveryAge interval (interval * 2) jitter defaultBack interval
 default-ages = ages-between interval (interval * 2) jitter defaultBack interval (lit≤ tt) (lit≤ tt) (lit≤ tt) (lit≤ tt)
 
 pub ages-half : (j back wait : ℕ) → wait ≤ interval → EveryAge interval (interval * 2) j back wait → j ≤ jitter
-ages-half j back wait soon every =
-    let most = ages-most interval (interval * 2) j back wait soon (lit≤ tt) every in
-    omega (arith, most .0, most .1)
+ages-half j back wait soon every = omega (arith, ages-room interval (interval * 2) j back wait soon (lit≤ tt) every)
 
 -- a quarter where the jitter also decides which frame was the last one heard
 pub default-every-call : EveryCall interval (interval * 2) quarter defaultBack interval
 default-every-call = calls-between interval (interval * 2) quarter defaultBack interval (lit≤ tt) (lit≤ tt) (lit≤ tt) (lit≤ tt)
 
 pub calls-quarter : (j back wait : ℕ) → wait ≤ interval → EveryCall interval (interval * 2) j back wait → j ≤ quarter
-calls-quarter j back wait soon every =
-    let most = calls-most interval (interval * 2) j back wait soon (lit≤ tt) every in
-    omega (arith, most .0, most .1)
+calls-quarter j back wait soon every = omega (arith, calls-room interval (interval * 2) j back wait soon (lit≤ tt) every)
 
 -- two samples have no jitter to spare at every age: wait + back is two intervals, and the arrivals are exact
 pub two-ages : (j back wait : ℕ) → wait ≤ interval → EveryAge interval interval j back wait → (j ≤ 0) × (wait + back ≡ interval * 2)

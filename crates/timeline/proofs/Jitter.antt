@@ -75,6 +75,10 @@ module _ (interval apart jitter back wait : ℕ) (soon : wait ≤ interval) (spa
       let youngest = jitter-most (dueOf interval wait 0) apart jitter back (every 0 (omega arith)) in
       (omega (arith, oldest .0, soon), omega (arith, youngest .1, soon))
 
+  -- no backTime allows more than half of what the ends are apart beyond an interval
+  pub ages-room : EveryAge interval apart jitter back wait → interval + jitter * 2 ≤ apart
+  ages-room every = omega (arith, ages-most every .0, ages-most every .1)
+
   -- ---- and where the jitter also decides which frame was the last one heard, every call
 
   -- exactly if it lies twice the jitter inside them
@@ -110,6 +114,18 @@ module _ (interval apart jitter back wait : ℕ) (soon : wait ≤ interval) (spa
             heard = omega arith;
             unheard = omega arith;
           })
+
+  -- and no backTime allows more than a quarter of what they are apart beyond an interval
+  pub calls-room : EveryCall interval apart jitter back wait → interval + jitter * 4 ≤ apart
+  calls-room every = omega (arith, calls-most every .0, calls-most every .1)
+
+-- three samples, whose ends are two intervals apart: a backTime of two and a half intervals less the wait allows half an interval at every age, and a quarter at every call
+module _ (quarter back wait : ℕ) (soon : wait ≤ quarter * 4) (middle : wait + back ≡ quarter * 10) where
+  pub half-at-every-age : EveryAge (quarter * 4) (quarter * 8) (quarter * 2) back wait
+  half-at-every-age = ages-between (quarter * 4) (quarter * 8) (quarter * 2) back wait soon (omega arith) (omega (arith, middle)) (omega (arith, middle))
+
+  pub quarter-at-every-call : EveryCall (quarter * 4) (quarter * 8) quarter back wait
+  quarter-at-every-call = calls-between (quarter * 4) (quarter * 8) quarter back wait soon (omega arith) (omega (arith, middle)) (omega (arith, middle))
 
 -- what lying between the samples is good for: where each of them is off by at most m, so is the line that Send reads, both sides times S
 pub sent-between : (a b a' b' : Sample) (m elapsed back : ℕ) → a' .local ≡ a .local → b' .local ≡ b .local
