@@ -12,7 +12,7 @@ use frame::Reading;
 use port::Setting;
 use times::LocalTime;
 
-// A port's setting, by its index; the copy of all settings is gone before a frame is worked on.
+// A port's setting, by its index: in a function of its own, so that a copy of all settings does not lie in Receive's frame.
 fn setting_at(settings: [Setting; 8], i: usize) -> Setting
     requires { ⌜ i < 8 ⌝ }
     ensures { λ r. ⌜ r ≡ getD settings i measuredSetting ⌝ }

@@ -1,4 +1,4 @@
--- Laws of the samples that are kept: where the limits hold grand time rose, and what is kept is lawful.
+-- Laws of the samples that are kept: where the limits hold grand time rose; what is kept, at most three, the newest of them the new one, and lawful; their ends.
 use mathlib.Core.Path.{_≡_, refl, sym, ap, subst, _∙_}
 use mathlib.Core.Bool.{Bool, true, false, cond, _&&_}
 use Prim.Native.Nat.{ℕ, _+_, _%_, _<_, _≤_}

@@ -1,5 +1,5 @@
--- What the test against the oldest that stays can tell. The limits hold from it, however the clock bends, unless the spread is too long; so up to half a
--- second three samples stand, and where frames lie more than a quarter of a second apart, one of any two samples in a row stands alone.
+-- Which samples stay beside a new one, and what the test against the oldest that stays can tell. The limits hold from it, however the clock bends, unless the
+-- spread is too long; so up to half a second three samples stand, and where frames lie more than a quarter of a second apart, one of any two samples in a row stands alone.
 use mathlib.Core.Path.{_≡_, refl, ap, subst, _∙_}
 use mathlib.Core.Bool.{true}
 use mathlib.Core.Logic.{_⊎_, inl, inr, ⊎-elim}
@@ -12,12 +12,17 @@ use Rattle.samples.specs.Keep.{spreadOf, riseOf, gainedOf, besideTwo, ke
 use Rattle.samples.specs.Demands.{Alone, Farther}
 use Rattle.samples.specs.declared.Sample.{Sample}
 use Rattle.samples.specs.declared.Samples.{Samples}
-use Rattle.samples.specs.declared.Samples.the-variants.{Three}
+use Rattle.samples.specs.declared.Samples.the-variants.{One, Two, Three}
 use Rattle.samples.specs.declared.Ends.the-variants.{Few}
 use Rattle.times.proofs.TimeLaws.{on-and-on}
 use Rattle.numbers.proofs.Ring.{same, split, neg-pos, sub-+, sub-neg-is, natAbs-+}
 use Rattle.samples.proofs.RateLaws.{limits-true}
 use Rattle.samples.proofs.KeepLaws.{Meet, recent-keeps, beside-two-is, kept-is, ends-few}
+
+-- a second sample stays beside the first where the limits hold
+pub second-stays : (a new : Sample) → Meet a new → keptOf (One a) true new ≡ Two a new
+unfolding keptOf
+second-stays a new met = rw (limits-true (gainedOf a new) (spreadOf a new) met)
 
 module _ (a b new : Sample) (held : Meet a b) (met : Meet b new) where
   -- the spreads add up, round the circle
@@ -53,9 +58,17 @@ module _ (a b new : Sample) (held : Meet a b) (met : Meet b new) where
           rw (gains-add, spreads-add)
           (sum (natAbs (gainedOf a b)) (natAbs (gainedOf b new)) _ _ _ (natAbs-+ (gainedOf a b) (gainedOf b new)) (held .near) (met .near))
 
-  -- so the third stands beside both
-  pub third-stays : spreadOf a new ≤ longestSpread → besideTwo a b new ≡ Three a b new
-  third-stays short = rw (limits-true (gainedOf b new) (spreadOf b new) met, limits-true (gainedOf a new) (spreadOf a new) (oldest-meets short))
+  -- so a new sample stays beside both, whether these two were kept or three
+  both-stay : spreadOf a new ≤ longestSpread → besideTwo a b new ≡ Three a b new
+  both-stay short = rw (limits-true (gainedOf b new) (spreadOf b new) met, limits-true (gainedOf a new) (spreadOf a new) (oldest-meets short))
+
+  pub third-stays : spreadOf a new ≤ longestSpread → keptOf (Two a b) true new ≡ Three a b new
+  unfolding keptOf
+  third-stays short = both-stay short
+
+  pub later-stays : (z : Sample) → spreadOf a new ≤ longestSpread → keptOf (Three z a b) true new ≡ Three a b new
+  unfolding keptOf
+  later-stays z short = both-stay short
 
   -- and alone where both stretches are longer than a quarter of a second
   far-apart : 2 ^ 38 < spreadOf a b → 2 ^ 38 < spreadOf b new → Meet a new → ⊥
