@@ -1,4 +1,6 @@
 // What a line is answered with: the state after it, and the text printed for it.
+#![tactic(auto)]
+
 ghost use Rattle.std.specs.Prelude.{◌≤◌, length};
 ghost use Rattle.bridge.specs.State.{Lawful};
 ghost use Rattle.columns.specs.Columns.{longest_answer};

@@ -1,4 +1,6 @@
 // Age: announcements that are too old go.
+#![tactic(auto)]
+
 ghost use Rattle.bridge.specs.State.{Lawful};
 ghost use Rattle.bridge.specs.Age.{age_of};
 ghost use Rattle.bridge.specs.Promises.{DonePromise};

@@ -1,4 +1,6 @@
 // The refusals that are found before any record is looked at.
+#![tactic(auto)]
+
 ghost use Rattle.std.specs.Prelude.{◌≡◌, ◌&&◌, ◌≤◌, leb, take};
 ghost use Rattle.times.specs.Times.{circle};
 ghost use Rattle.frame.specs.Frame.{is_version};

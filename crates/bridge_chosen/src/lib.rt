@@ -1,4 +1,6 @@
 // Chosen: the best clock.
+#![tactic(auto)]
+
 ghost use Rattle.bridge.specs.State.{Lawful};
 ghost use Rattle.bridge.specs.Promises.{ChosenPromise};
 

@@ -1,4 +1,6 @@
 // Drift: a clock's rate in parts per million.
+#![tactic(auto)]
+
 ghost use Rattle.bridge.specs.State.{Lawful};
 ghost use Rattle.bridge.specs.Promises.{DriftPromise};
 

@@ -1,4 +1,6 @@
 // Links: which ports have a link.
+#![tactic(auto)]
+
 ghost use Rattle.std.specs.Prelude.{◌≡◌, ◌<◌};
 ghost use Rattle.bridge.specs.Table.{loses_link};
 ghost use Rattle.bridge.specs.State.{Lawful};

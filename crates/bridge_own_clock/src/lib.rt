@@ -1,4 +1,6 @@
 // Own clock: a reading of the station's own clock.
+#![tactic(auto)]
+
 ghost use Rattle.bridge.specs.State.{Lawful};
 ghost use Rattle.bridge.specs.Own.{own_clock_of};
 ghost use Rattle.bridge.specs.Promises.{DonePromise};

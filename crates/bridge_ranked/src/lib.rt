@@ -1,4 +1,6 @@
 // Ranked: the candidate at a place of the ranking, for a front panel.
+#![tactic(auto)]
+
 ghost use Rattle.bridge.specs.State.{Lawful};
 ghost use Rattle.bridge.specs.Promises.{RankedPromise};
 

@@ -1,4 +1,6 @@
 // Receive: a frame that arrived at a port.
+#![tactic(auto)]
+
 ghost use Rattle.std.specs.Prelude.{◌≡◌, ◌<◌, get_or};
 ghost use Rattle.bridge.specs.Fits.{measured_setting};
 ghost use Rattle.bridge.specs.State.{Lawful};

@@ -1,4 +1,6 @@
 // Send: a port's next frame.
+#![tactic(auto)]
+
 ghost use Rattle.bridge.specs.State.{Lawful};
 ghost use Rattle.bridge.specs.Promises.{SendPromise};
 

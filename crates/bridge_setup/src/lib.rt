@@ -1,4 +1,6 @@
 // Setup: the first state, or a refusal.
+#![tactic(auto)]
+
 ghost use Rattle.std.specs.Prelude.{◌≡◌};
 ghost use Rattle.bridge.specs.Fits.{plain_setup};
 ghost use Rattle.bridge.specs.Setup.{fresh_of, setup_of};

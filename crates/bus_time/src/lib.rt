@@ -1,4 +1,6 @@
 // Outward and Inward: the bus time of a grand time, and the next grand time of a bus time; and the bus's register.
+#![tactic(auto)]
+
 ghost use Rattle.std.specs.Prelude.{◌≡◌, ◌<◌};
 ghost use Rattle.refusals.specs.Promises.{AnswerPromise};
 ghost use Rattle.times.specs.Times.{second, InRange};

@@ -1,4 +1,6 @@
 // The lines of a capture: a port, an arrival and a frame each; printed are the bridge's answer and the clock that is chosen then.
+#![tactic(auto)]
+
 ghost use Rattle.std.specs.Prelude.{◌≡◌, ◌≤◌, length};
 ghost use Rattle.bridge.specs.State.{Lawful};
 ghost use Rattle.columns.specs.Columns.{longest_answer, Prints};

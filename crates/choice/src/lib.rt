@@ -1,4 +1,5 @@
 // How good a clock is, and the choice between clocks.
+#![tactic(auto)]
 
 use times::LocalTime;
 

@@ -1,4 +1,6 @@
 // What is asked of a choice: its held hop and its number, and both as they are shown.
+#![tactic(auto)]
+
 ghost use Rattle.std.specs.Prelude.{◌≡◌};
 ghost use Rattle.choice.specs.Choose.{chosen_hop, number_of, shown_port, shown_hop};
 

@@ -1,4 +1,6 @@
 // Step 3: the hop that is held for a frame.
+#![tactic(auto)]
+
 ghost use Rattle.std.specs.Prelude.{◌≡◌, ◌<◌};
 ghost use Rattle.choice.specs.Hop.{last_hop, jump_of, hop_of};
 

@@ -1,4 +1,6 @@
 // Precedence as one number of 104 bits, and the key of a clock's frame: precedence, then hop.
+#![tactic(auto)]
+
 ghost use Rattle.std.specs.Prelude.{◌≡◌, ltb, eqb};
 ghost use Rattle.choice.specs.Precedence.{high_of, precedence_of, key_of};
 

@@ -1,4 +1,6 @@
 // Passes left at a hop: read off a table, worked out by the rule, and the test that the table agrees with the rule.
+#![tactic(auto)]
+
 pub mod table;
 
 ghost use Rattle.std.specs.Prelude.{◌≡◌};

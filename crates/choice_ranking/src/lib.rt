@@ -1,4 +1,6 @@
 // The ranking as it is kept: the two numbers of a rank at each of nine places, the best first, and behind the last clock those of no candidate.
+#![tactic(auto)]
+
 ghost use Rattle.std.specs.Prelude.{◌≡◌, [], ◌<◌};
 ghost use Rattle.choice.specs.Choose.{candidate_of, own_candidate};
 ghost use Rattle.choice.specs.Ranking.{placed_of};

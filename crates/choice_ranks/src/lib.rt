@@ -1,4 +1,6 @@
 // Ranks: what is compared of a candidate, as two numbers.
+#![tactic(auto)]
+
 ghost use Rattle.std.specs.Prelude.{◌≡◌, ◌<◌, ltb};
 ghost use Rattle.choice.specs.Choose.{candidate_of, own_candidate};
 ghost use Rattle.choice.specs.Rank.{lower_end, Ranks, Ranked, worth_of, same_rank_of, precedence_at, candidate_at};

@@ -1,4 +1,6 @@
 // A line of text by columns. A column is a width and a value: the value's low bytes as capital digits, or at the width 0 one character.
+#![tactic(auto)]
+
 ghost use Rattle.std.specs.Prelude.{◌≡◌, ◌++◌, ◌+◌, ◌*◌, ◌≤◌, length, take, drop};
 ghost use Rattle.numbers.specs.Bytes.{number_bytes};
 ghost use Rattle.hexadecimal.specs.Print.{text_of};

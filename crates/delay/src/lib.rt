@@ -1,4 +1,6 @@
 // Step 2: the link delay, fixed or measured.
+#![tactic(auto)]
+
 ghost use Rattle.std.specs.Prelude.{◌≡◌, ◌≤◌, nat_abs};
 ghost use Rattle.samples.specs.Rate.{neighbour_rate_of, steepest};
 ghost use Rattle.delay.specs.Delay.{longest_trip, delay_of, measured_of, link_delay_of};

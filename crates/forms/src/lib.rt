@@ -1,4 +1,6 @@
 // A line's fields, read by a row of their kinds.
+#![tactic(auto)]
+
 ghost use Rattle.std.specs.Prelude.{◌≡◌};
 ghost use Rattle.forms.specs.Form.{no_form, form_of};
 

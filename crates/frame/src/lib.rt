@@ -1,4 +1,6 @@
 // The time_sync frame of 64 bytes: read, written, and the better of two.
+#![tactic(auto)]
+
 pub mod layout;
 pub mod version;
 

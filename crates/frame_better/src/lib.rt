@@ -1,4 +1,6 @@
 // The better of two frames, as a part of it.
+#![tactic(auto)]
+
 ghost use Rattle.std.specs.Prelude.{◌≡◌};
 ghost use Rattle.frame.specs.Better.{standing_of, winner_of};
 ghost use Rattle.frame.specs.Promises.{BetterPromise};

@@ -1,4 +1,6 @@
 // Reading: a frame's bytes to its fields, or a refusal.
+#![tactic(auto)]
+
 ghost use Rattle.std.specs.Prelude.{◌≡◌};
 ghost use Rattle.numbers.specs.Table.{Held};
 ghost use Rattle.frame.specs.Frame.{widths, mac_of, precedence_in, fields_of};

@@ -1,4 +1,6 @@
 // Writing: fields to a frame's bytes, or a refusal that leaves the output as it was.
+#![tactic(auto)]
+
 ghost use Rattle.std.specs.Prelude.{◌≡◌, ◌≤◌, length, drop};
 ghost use Rattle.frame.specs.Frame.{frame_length, values_of};
 ghost use Rattle.frame.specs.Write.{write_refusal, bytes_of};

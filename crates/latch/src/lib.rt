@@ -1,4 +1,6 @@
 // The lines of the stamps program: a latch among the lines of a capture; printed for a latch is its stamp.
+#![tactic(auto)]
+
 ghost use Rattle.std.specs.Prelude.{◌≡◌, true, ◌≤◌, length};
 ghost use Rattle.bridge.specs.State.{Lawful};
 ghost use Rattle.columns.specs.Columns.{longest_answer, Prints};

@@ -1,4 +1,6 @@
 // Numbers in bytes, most significant byte first, at any width up to 8.
+#![tactic(auto)]
+
 ghost use Rattle.std.specs.Prelude.{◌≡◌, ◌+◌, ◌<◌, ◌≤◌, ◌^◌, length};
 ghost use Rattle.numbers.specs.Bytes.{onto, number_at, number_bytes, spliced};
 

@@ -1,4 +1,6 @@
 // The test of the table of passes left: that at every hop it has what the rule gives.
+#![tactic(auto)]
+
 use choice_passes::table;
 use libc::STDOUT_FILENO;
 

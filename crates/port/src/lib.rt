@@ -1,4 +1,6 @@
 // One port's record and the own clock's, and what each event makes of them.
+#![tactic(auto)]
+
 pub mod record;
 
 use choice::Announcement;

@@ -1,4 +1,6 @@
 // The own clock: what a reading of it is answered with, and what is stored of it.
+#![tactic(auto)]
+
 ghost use Rattle.std.specs.Prelude.{◌≡◌};
 ghost use Rattle.times.specs.Times.{InRange};
 ghost use Rattle.samples.specs.Keep.{LawfulSamples};

@@ -1,4 +1,6 @@
 // Steps 1 to 5 on one record: what a frame is answered with, and what is stored of it.
+#![tactic(auto)]
+
 ghost use Rattle.std.specs.Prelude.{◌≡◌, ◌<◌};
 ghost use Rattle.choice.specs.Hop.{last_hop};
 ghost use Rattle.port.specs.Lawful.{LawfulPort, FieldsInRange};

@@ -1,4 +1,6 @@
 // The frame that a port sends: a full bridge's for the chosen clock, or a listener's.
+#![tactic(auto)]
+
 ghost use Rattle.std.specs.Prelude.{◌≡◌, ◌<◌, ◌≤◌, length};
 ghost use Rattle.samples.specs.Keep.{LawfulSamples};
 ghost use Rattle.timeline.specs.Sent.{longest_elapsed};

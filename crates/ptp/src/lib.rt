@@ -1,4 +1,6 @@
 // Times for a PTP analyser: the IEEE 1588 timestamp of a grand time, the grand time of a timestamp, and PTP seconds on other scales. The types, definitions and theorems stand here; the calls' code is above.
+#![tactic(auto)]
+
 use times::GrandTime;
 
 // A second of the PTP scale, 0 to 2^48 - 1.

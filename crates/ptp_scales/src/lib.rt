@@ -1,4 +1,6 @@
 // PTP seconds on the scales of GPS, UTC and NTP: table B.1 of the draft, where a scale's second is PTP's + offset, for UTC and NTP less the leap seconds.
+#![tactic(auto)]
+
 ghost use Rattle.std.specs.Prelude.{◌≡◌, ◌^◌, ◌<◌, pos, nat_abs, ◌+ℤ◌, ◌-ℤ◌};
 ghost use Rattle.ptp.specs.Scale.{scaled_of, gps_of, gps_refusal, gps_given, utc_of, utc_refusal, utc_given, ntp_of, ntp_refusal, ntp_given, gps_no, gps_second, utc_no, utc_second, ntp_no, ntp_second};
 ghost use Rattle.ptp.specs.Promises.{AnswerPromise};

@@ -1,4 +1,6 @@
 // Export and Import: the PTP time of a grand time, and back.
+#![tactic(auto)]
+
 ghost use Rattle.std.specs.Prelude.{◌≡◌, ◌<◌};
 ghost use Rattle.times.specs.Times.{second};
 ghost use Rattle.ptp.specs.Timestamp.{billion, nanosecond_of, ptp_time_of, export_of, export_refusal, fraction_of, grand_time_of, import_of, import_refusal, export_no, export_time, import_no, import_time};

@@ -1,4 +1,6 @@
 // The recorder's own events: the grand time of a local time that its front end latched when a wave arrived, off a clock's samples.
+#![tactic(auto)]
+
 ghost use Rattle.std.specs.Prelude.{◌≡◌};
 ghost use Rattle.samples.specs.Keep.{ends_of, LawfulSamples};
 ghost use Rattle.recorder.specs.Stamp.{distance_of, stamp_through};

@@ -1,4 +1,6 @@
 // Stamp: the grand time of a latch, by the chosen clock.
+#![tactic(auto)]
+
 ghost use Rattle.bridge.specs.State.{Lawful};
 ghost use Rattle.recorder.specs.Promises.{StampPromise};
 

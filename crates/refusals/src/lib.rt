@@ -1,4 +1,6 @@
 // The number of each answer that is no more than a number: done, and document 01's fourteen refusals, in its order.
+#![tactic(auto)]
+
 pub const DONE: u8 = 0;
 
 // Setup: not 1 to 8 ports, or a timeout, a backTime or a fixed delay out of its range.

@@ -1,4 +1,6 @@
 // The lines of replay over the cycle time of a bus. Above each stands the line; its fields are counted from 0, the first after the letter. No bridge is known here.
+#![tactic(auto)]
+
 ghost use Rattle.std.specs.Prelude.{◌≡◌, ◌≤◌, length};
 ghost use Rattle.bus.specs.Bus.{outward_of, inward_of};
 ghost use Rattle.forms.specs.Form.{number_in};

@@ -1,4 +1,6 @@
 // The lines whose call changes the state. Above each stands the line; its fields are counted from 0, the first after the letter.
+#![tactic(auto)]
+
 ghost use Rattle.std.specs.Prelude.{◌≡◌, ◌≤◌, length, take};
 ghost use Rattle.forms.specs.Field.{most_length};
 ghost use Rattle.forms.specs.Form.{buffer_bytes, number_in};

@@ -1,4 +1,6 @@
 // The lines of replay over frames alone, and over a hop. Above each stands the line; its fields are counted from 0, the first after the letter. No bridge is known here.
+#![tactic(auto)]
+
 ghost use Rattle.std.specs.Prelude.{◌≡◌, ◌≤◌, length, take, drop};
 ghost use Rattle.frame.specs.Read.{read_of};
 ghost use Rattle.forms.specs.Field.{most_length};

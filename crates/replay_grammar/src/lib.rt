@@ -1,4 +1,6 @@
 // The lines of replay, apart from what their calls do: which letter has which fields, and which lines leave the state as it is.
+#![tactic(auto)]
+
 pub mod rows;
 
 ghost use Rattle.std.specs.Prelude.{◌≡◌};

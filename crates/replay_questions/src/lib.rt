@@ -1,4 +1,6 @@
 // The lines whose call asks a bridge and leaves it as it is. Above each stands the line; its fields are counted from 0, the first after the letter.
+#![tactic(auto)]
+
 ghost use Rattle.std.specs.Prelude.{◌≤◌, not, length, T};
 ghost use Rattle.std.specs.Float.Ieee.{is_nan, to_bits};
 ghost use Rattle.std.specs.Float.{binary64};

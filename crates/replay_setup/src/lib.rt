@@ -1,5 +1,7 @@
 // What Setup is given by a line: S and P have the fields `n mac prec capable timeout back d1 .. d8`, V has `listener` before them and `versions` behind them.
 // Fields are counted from 0, the first after the letter.
+#![tactic(auto)]
+
 ghost use Rattle.std.specs.Prelude.{◌≡◌, ◌<◌, ◌≤◌};
 ghost use Rattle.forms.specs.Form.{most_fields};
 ghost use Rattle.forms.specs.Value.{flag_in};

@@ -1,4 +1,6 @@
 // The lines of replay over times alone, for a PTP analyser. Above each stands the line; its fields are counted from 0, the first after the letter. No bridge is known here.
+#![tactic(auto)]
+
 ghost use Rattle.std.specs.Prelude.{◌≡◌, ◌≤◌, length};
 ghost use Rattle.ptp.specs.Timestamp.{export_of, import_of};
 ghost use Rattle.ptp.specs.Scale.{gps_of, utc_of, ntp_of};

@@ -1,4 +1,5 @@
 // Samples: a grand time and the local time that it belongs to. What lies between two of them, the rate of one clock on another, and which are kept.
+#![tactic(auto)]
 
 use times::{ErrorTime, GrandTime, LocalTime};
 

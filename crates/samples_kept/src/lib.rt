@@ -1,4 +1,6 @@
 // Step 4: which samples are kept, and the two of them that a line is read off.
+#![tactic(auto)]
+
 ghost use Rattle.std.specs.Prelude.{◌≡◌, ◌&&◌};
 ghost use Rattle.times.specs.Times.{InRange};
 ghost use Rattle.samples.specs.Keep.{gain_between, rate_between, limits_between, beside_one, beside_two, kept_of, ends_of, LawfulEnds, LawfulSamples};

@@ -1,4 +1,6 @@
 // Step 1: the rate of one clock against another, in parts of 2^35, and what it makes of a stretch of time.
+#![tactic(auto)]
+
 ghost use Rattle.std.specs.Prelude.{◌≡◌, ◌<◌, ◌≤◌, ◌^◌, pos, nat_abs};
 ghost use Rattle.samples.specs.Rate.{Limits, gain_of, rate_of, scaled_of, advance_of, rate_within, neighbour_rate_of, longest_spread, steepest};
 

@@ -1,4 +1,6 @@
 // Lines one after the other, whatever reads cut them: each is answered by a program, and the start of one that was cut off is kept.
+#![tactic(auto)]
+
 pub mod lines;
 
 ghost use Rattle.std.specs.Prelude.{◌≡◌, [], ◌≤◌, length, take};

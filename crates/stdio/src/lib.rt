@@ -1,4 +1,6 @@
 // A program over standard input and output: lines to the end of the input, and their answers.
+#![tactic(auto)]
+
 ghost use Rattle.std.specs.Prelude.{◌≡◌, true, ◌⊎◌, ◌≤◌, length};
 ghost use Rattle.columns.specs.Columns.{longest_answer};
 ghost use Rattle.session.specs.Lines.{fed_of};

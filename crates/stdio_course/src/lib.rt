@@ -1,4 +1,6 @@
 // How a run goes on: what a read and a write answered decides it, and nothing else.
+#![tactic(auto)]
+
 ghost use Rattle.std.specs.Prelude.{◌≡◌};
 ghost use Rattle.stdio_course.specs.Course.{course_after, reads_on, onward_after};
 

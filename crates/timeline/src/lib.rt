@@ -1,4 +1,6 @@
 // The line through the oldest and the newest kept sample of a clock: a reading of it, the grand time that is sent, and the clock's drift.
+#![tactic(auto)]
+
 ghost use Rattle.std.specs.Prelude.{◌≡◌, ◌≤◌, pos, nat_abs, ◌+ℤ◌};
 ghost use Rattle.times.specs.Times.{InRange, moment_of};
 ghost use Rattle.samples.specs.Rate.{steepest};

@@ -1,5 +1,7 @@
 // The two kinds of time, which never stand for each other, and the arithmetic on each.
 // The unit of every time is U = 2^-40 s.
+#![tactic(auto)]
+
 pub mod error;
 pub mod grand;
 pub mod local;
