@@ -9,7 +9,7 @@ ghost use Rattle.answer.specs.Answer.{refused_line, done_says, Says};
 use bridge::{Bridge, Done};
 
 // The state after a line, and the length of what is printed for it.
-#[derive(Drop)]
+#[derive(Clone, Copy)]
 pub struct Answered {
     pub next: Bridge,
     pub len: usize,

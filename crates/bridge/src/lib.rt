@@ -17,7 +17,7 @@ const FIFTEEN_MILLISECONDS: u64 = 16_492_674_417;
 
 // What Setup is given: what the station puts into its frames, its own precedence and whether it is capable, how many ports it has, the version of the
 // frames that each of them sends, a timeout, and each port's part.
-#[derive(Drop)]
+#[derive(Clone, Copy)]
 pub struct Setup {
     pub sender: Sender,
     pub own: Precedence,
@@ -29,7 +29,7 @@ pub struct Setup {
 }
 
 // The whole state: what Setup was given, the links, the ranking of all candidates, the own clock's record and the ports' records.
-#[derive(Drop)]
+#[derive(Clone, Copy)]
 pub struct Bridge {
     pub setup: Setup,
     pub links: u8,
@@ -39,21 +39,21 @@ pub struct Bridge {
 }
 
 // What most calls answer, 0 for done, and the next state.
-#[derive(Drop)]
+#[derive(Clone, Copy)]
 pub struct Done {
     pub next: Bridge,
     pub answer: u8,
 }
 
 // What Links answers: how many ports have a link, or a refusal.
-#[derive(Drop)]
+#[derive(Clone, Copy)]
 pub enum LinkCount {
     Refused,
     Up(u8),
 }
 
 // Links' answer and the next state.
-#[derive(Drop)]
+#[derive(Clone, Copy)]
 pub struct Linked {
     pub next: Bridge,
     pub answer: LinkCount,

@@ -4,7 +4,7 @@
 use times::GrandTime;
 
 // A bus time: its second, modulo 128; the cycle of that second, 0 to 7,999; the tick of that cycle, 0 to 3,071.
-#[derive(Drop)]
+#[derive(Clone, Copy)]
 pub struct BusTime {
     pub seconds: u64,
     pub cycle: u64,
@@ -12,25 +12,25 @@ pub struct BusTime {
 }
 
 // The 32 bits of the bus's CYCLE_TIME register.
-#[derive(Drop)]
+#[derive(Clone, Copy)]
 pub struct CycleTime(pub u32);
 
 // The bus time of a grand time, or a refusal.
-#[derive(Drop)]
+#[derive(Clone, Copy)]
 pub enum ToBus {
     At(BusTime),
     Refused(u8),
 }
 
 // The grand time of a bus time, or a refusal.
-#[derive(Drop)]
+#[derive(Clone, Copy)]
 pub enum FromBus {
     At(GrandTime),
     Refused(u8),
 }
 
 // The register of a bus time, or a refusal.
-#[derive(Drop)]
+#[derive(Clone, Copy)]
 pub enum ToRegister {
     Holds(CycleTime),
     Refused(u8),

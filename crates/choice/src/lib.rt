@@ -4,7 +4,7 @@
 use times::LocalTime;
 
 // How good a clock is, the weightiest part first; less is better.
-#[derive(Drop)]
+#[derive(Clone, Copy)]
 pub struct Precedence {
     pub priority1: u8,
     pub source: u8,
@@ -14,19 +14,19 @@ pub struct Precedence {
 }
 
 // The announcement: precedence, held hop, and when it was heard.
-#[derive(Drop)]
+#[derive(Clone, Copy)]
 pub enum Announcement {
     Silent,
     Announced(Precedence, u8, LocalTime),
 }
 
 // A clock to be chosen, or none: precedence, held hop, and port, 0 for the own clock.
-#[derive(Drop)]
+#[derive(Clone, Copy)]
 pub enum Candidate {
     Nothing,
     Clock(Precedence, u8, u8),
 }
 
 // A candidate's rank as two numbers, of which the first weighs more; both are the last there is where there is no candidate.
-#[derive(Drop)]
+#[derive(Clone, Copy)]
 pub struct Rank(pub u64, pub u64);

@@ -9,14 +9,14 @@ use samples::Pair;
 use times::{LocalTime, local};
 
 // How a port comes by its link delay.
-#[derive(Drop)]
+#[derive(Clone, Copy)]
 pub enum DelaySetting {
     Measured,
     Fixed(u64),
 }
 
 // A link delay, or that what was measured is too long to be one.
-#[derive(Drop)]
+#[derive(Clone, Copy)]
 pub enum Delay {
     Is(u64),
     TooLong,

@@ -33,7 +33,7 @@ const NO_BYTES: u8 = b'-';
 const NO_MARK: u8 = b' ';
 
 // What a kind wants: its mark, or digits from the fewest to the most, which make bytes or a number up to the greatest.
-#[derive(Drop)]
+#[derive(Clone, Copy)]
 pub struct Rule {
     pub mark: u8,
     pub fewest: usize,
@@ -43,7 +43,7 @@ pub struct Rule {
 }
 
 // What a field says: whether it is of its kind, whether it is the mark, its number, how many bytes and how many characters it has.
-#[derive(Drop)]
+#[derive(Clone, Copy)]
 pub struct Field {
     pub good: bool,
     pub marked: bool,

@@ -17,7 +17,7 @@ const ROOM: usize = 256;
 
 // What the fields of a line say: whether each is its kind's mark; its number, or how many bytes it has; and the bytes of all, one after the other.
 // The order of the parts is measured: with the marks behind the numbers every line costs one copy more (docs/DECISIONS.md, Copies).
-#[derive(Drop)]
+#[derive(Clone, Copy)]
 pub struct Form {
     pub good: bool,
     pub marked: [bool; 16],

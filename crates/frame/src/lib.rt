@@ -8,11 +8,11 @@ use choice::Precedence;
 use times::{ErrorTime, GrandTime, LocalTime};
 
 // The six bytes of a station's address.
-#[derive(Drop)]
+#[derive(Clone, Copy)]
 pub struct Mac(pub u8, pub u8, pub u8, pub u8, pub u8, pub u8);
 
 // What a frame says.
-#[derive(Drop)]
+#[derive(Clone, Copy)]
 pub struct Fields {
     pub sa: Mac,
     pub precedence: Precedence,
@@ -27,21 +27,21 @@ pub struct Fields {
 }
 
 // What reading finds: a frame's fields, or the refusal's number.
-#[derive(Drop)]
+#[derive(Clone, Copy)]
 pub enum Reading {
     Frame(Fields),
     Refused(u8),
 }
 
 // How a frame stands in a comparison: it loses, or it has a precedence and a hop.
-#[derive(Drop)]
+#[derive(Clone, Copy)]
 pub enum Standing {
     Loses,
     Stands(Precedence, u8),
 }
 
 // Which of two frames is the better.
-#[derive(Drop)]
+#[derive(Clone, Copy)]
 pub enum Winner {
     Neither,
     First,

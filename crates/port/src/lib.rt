@@ -10,14 +10,14 @@ use samples::{Pair, Samples};
 use times::LocalTime;
 
 // The frameCount and the arrival of the preceding frame, the next p.
-#[derive(Drop)]
+#[derive(Clone, Copy)]
 pub enum Preceding {
     Never,
     Was(u8, LocalTime),
 }
 
 // All that is stored of a port; the count is its next frameCount.
-#[derive(Drop)]
+#[derive(Clone, Copy)]
 pub struct Port {
     pub preceding: Preceding,
     pub announcement: Announcement,
@@ -28,27 +28,27 @@ pub struct Port {
 }
 
 // All that is stored of the station's own clock.
-#[derive(Drop)]
+#[derive(Clone, Copy)]
 pub struct OwnClock {
     pub preceding: Preceding,
     pub samples: Samples,
 }
 
 // A port's part of the setup.
-#[derive(Drop)]
+#[derive(Clone, Copy)]
 pub struct Setting {
     pub delay: DelaySetting,
 }
 
 // What a station is: a bridge that passes the chosen clock on, or a listener, whose frames are for the neighbour's measuring of the cable alone.
-#[derive(Drop)]
+#[derive(Clone, Copy)]
 pub enum Profile {
     Full,
     Listener,
 }
 
 // What decides what a station puts into its frames: its profile, its address, and the backTime by which a full bridge reads grand time.
-#[derive(Drop)]
+#[derive(Clone, Copy)]
 pub struct Sender {
     pub profile: Profile,
     pub mac: Mac,
@@ -56,21 +56,21 @@ pub struct Sender {
 }
 
 // What a frame or a send is answered with, 0 for done, and the port's record after it.
-#[derive(Drop)]
+#[derive(Clone, Copy)]
 pub struct PortDone {
     pub answer: u8,
     pub port: Port,
 }
 
 // What a reading of the own clock is answered with, 0 for done, and its record after it.
-#[derive(Drop)]
+#[derive(Clone, Copy)]
 pub struct ClockDone {
     pub answer: u8,
     pub clock: OwnClock,
 }
 
 // The fields of a frame to be sent, or the refusal's number.
-#[derive(Drop)]
+#[derive(Clone, Copy)]
 pub enum Sending {
     Refused(u8),
     Frame(Fields),

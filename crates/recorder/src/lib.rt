@@ -21,7 +21,7 @@ const TOO_FAR: u8 = refusals::TOO_LATE;
 const NOTHING_MORE: u64 = 0;
 
 // What a latch is stamped with: its grand time, or a refusal.
-#[derive(Drop)]
+#[derive(Clone, Copy)]
 pub enum Stamped {
     At(GrandTime),
     Refused(u8),

@@ -4,7 +4,7 @@
 use times::{ErrorTime, GrandTime, LocalTime};
 
 // What a clock's frame says: its grand time, and the local time that it belongs to.
-#[derive(Drop)]
+#[derive(Clone, Copy)]
 pub struct Sample {
     pub grand: GrandTime,
     pub local: LocalTime,
@@ -12,7 +12,7 @@ pub struct Sample {
 }
 
 // What is kept of a clock, the oldest sample first.
-#[derive(Drop)]
+#[derive(Clone, Copy)]
 pub enum Samples {
     Empty,
     One(Sample),
@@ -21,21 +21,21 @@ pub enum Samples {
 }
 
 // The oldest and the newest sample that are kept, or that there are too few to read a line off.
-#[derive(Drop)]
+#[derive(Clone, Copy)]
 pub enum Ends {
     Few,
     Both(Sample, Sample),
 }
 
 // A neighbour's localTime and the arrival here that it belongs to.
-#[derive(Drop)]
+#[derive(Clone, Copy)]
 pub enum Pair {
     Unset,
     Set(LocalTime, LocalTime),
 }
 
 // By how much one clock gained on another, where the limits hold.
-#[derive(Drop)]
+#[derive(Clone, Copy)]
 pub enum Gain {
     Within(i64),
     Outside,

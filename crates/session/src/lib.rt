@@ -15,7 +15,7 @@ use hexadecimal::search;
 use session_programs::first_bridge;
 
 // What is kept from read to read: the bridge, and the line as far as it is read.
-#[derive(Drop)]
+#[derive(Clone, Copy)]
 pub struct Session {
     pub bridge: Bridge,
     pub text: [u8; 516],
@@ -23,7 +23,7 @@ pub struct Session {
 }
 
 // What a turn leaves: the session, how much of the output is filled, and where the bytes go on.
-#[derive(Drop)]
+#[derive(Clone, Copy)]
 pub struct Progress {
     pub session: Session,
     pub filled: usize,

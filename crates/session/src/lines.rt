@@ -16,7 +16,7 @@ pub const NEWLINE: u8 = b'\n';
 const KEPT: usize = replay_grammar::LONGEST_LINE + 1;
 
 // The state after whole lines, how much of the output is filled then, and where the bytes go on.
-#[derive(Drop)]
+#[derive(Clone, Copy)]
 pub struct Lines {
     pub next: Bridge,
     pub filled: usize,

@@ -13,14 +13,14 @@ use session::Session;
 use stdio_course::Course;
 
 // What the answers to a read leave: the session, and whether all of them were written.
-#[derive(Drop)]
+#[derive(Clone, Copy)]
 struct Written {
     session: Session,
     whole: bool,
 }
 
 // A run that has stopped: how it went, and how many reads it made.
-#[derive(Drop)]
+#[derive(Clone, Copy)]
 pub struct Ending {
     pub course: Course,
     pub reads: u64,

@@ -5,7 +5,7 @@ ghost use Rattle.std.specs.Prelude.{◌≡◌};
 ghost use Rattle.stdio_course.specs.Course.{course_after, reads_on, onward_after};
 
 // The input goes on, or has ended; or a read failed, or a write did.
-#[derive(Drop)]
+#[derive(Clone, Copy)]
 pub enum Course {
     On,
     Ended,

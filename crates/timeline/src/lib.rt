@@ -13,7 +13,7 @@ pub mod departure;
 pub mod ppm;
 
 // The grand time and errorTime of a frame to be sent, or why there is none: too few samples, too late, beyond the range.
-#[derive(Drop)]
+#[derive(Clone, Copy)]
 pub enum Sent {
     At(GrandTime, ErrorTime),
     Few,
@@ -22,7 +22,7 @@ pub enum Sent {
 }
 
 // A clock's drift: too few samples, exact parts per million, or no such clock.
-#[derive(Drop)]
+#[derive(Clone, Copy)]
 pub enum Drift {
     NoReading,
     PartsPerMillion(f64),

@@ -8,33 +8,33 @@ pub mod local;
 pub mod parts;
 
 // A reading of a local clock, 0 to 2^48 - 1: it wraps every 256 s.
-#[derive(Drop)]
+#[derive(Clone, Copy)]
 pub struct LocalTime(pub u64);
 
 // A grand time: whole seconds and a fraction in U, each below 2^40.
-#[derive(Drop)]
+#[derive(Clone, Copy)]
 pub struct GrandTime(pub u64, pub u64);
 
 // An errorTime in U: its 32 bits, in two's complement.
-#[derive(Drop)]
+#[derive(Clone, Copy)]
 pub struct ErrorTime(pub u32);
 
 // A grand time, or that it would be below zero or reach the end of grand time.
-#[derive(Drop)]
+#[derive(Clone, Copy)]
 pub enum Moment {
     At(GrandTime),
     Beyond,
 }
 
 // An errorTime, or that it would leave its 32 bits.
-#[derive(Drop)]
+#[derive(Clone, Copy)]
 pub enum ErrorWithin {
     Is(ErrorTime),
     Beyond,
 }
 
 // By how much grand time rose, where it rose by less than a second.
-#[derive(Drop)]
+#[derive(Clone, Copy)]
 pub enum Rise {
     By(u64),
     Far,
