@@ -76,21 +76,21 @@ number_step out t at rest (suc k) p h e =
 -- ---- a text in the output from `at` up to `end`, whose rest is as it was
 
 abbrev pub Puts : List ℕ → ℕ → ℕ → List ℕ → List ℕ → Type 0
-Puts text at end was left = (end ≡ at + length text) × (left ≡ take at was ++ (text ++ drop end was))
+Puts text at end was left = record { value : end ≡ at + length text; out_after : left ≡ take at was ++ (text ++ drop end was) }
 
 pub puts_nothing : (at : ℕ) (out : List ℕ) → Puts [] at at out out
-puts_nothing at out = (omega arith, sym (take-append-drop at out))
+puts_nothing at out = record { value = omega arith; out_after = sym (take-append-drop at out) }
 
 pub puts_both : (was mid left s t : List ℕ) (at m end : ℕ) → at ≤ length was → Puts s at m was mid → Puts t m end mid left → Puts (s ++ t) at end was left
 puts_both was mid left s t at m end h p q =
-    let n : length (take at was ++ s) ≡ m = length-append (take at was) s ∙ ap (λ (k : ℕ). k + length s) (length-take-le at was h) ∙ sym p.0 in
-    let e : mid ≡ (take at was ++ s) ++ drop m was = p.1 ∙ sym (append_assoc (take at was) s (drop m was)) in
+    let n : length (take at was ++ s) ≡ m = length-append (take at was) s ∙ ap (λ (k : ℕ). k + length s) (length-take-le at was h) ∙ sym p.value in
+    let e : mid ≡ (take at was ++ s) ++ drop m was = p.out_after ∙ sym (append_assoc (take at was) s (drop m was)) in
     let x : take m mid ≡ take at was ++ s = ap (take m) e ∙ take_at (take at was ++ s) (drop m was) m n in
     let y : drop m mid ≡ drop m was = ap (drop m) e ∙ drop_at (take at was ++ s) (drop m was) m n in
-    let z : drop end mid ≡ drop end was = rw (q.0, ← drop-drop (length t) m mid, ← drop-drop (length t) m was, y) refl in (
-      omega (arith, length-append s t),
-      q.1 ∙ rw (x, z, append_assoc (take at was) s (t ++ drop end was), append_assoc s t (drop end was)) refl,
-    )
+    let z : drop end mid ≡ drop end was = rw (q.value, ← drop-drop (length t) m mid, ← drop-drop (length t) m was, y) refl in record {
+      value = omega (arith, length-append s t);
+      out_after = q.out_after ∙ rw (x, z, append_assoc (take at was) s (t ++ drop end was), append_assoc s t (drop end was)) refl;
+    }
 
 -- ---- one column more
 
@@ -110,10 +110,10 @@ module _ (ws : List ℕ) (i : ℕ) (h : i < length ws) where
 -- a text at the start that fits a line
 pub printed : {text was left : List ℕ} {len : ℕ} → Puts text 0 len was left → len ≤ longest_answer → Prints text len was left
 printed {text = text} {was = was} p f =
-    let l : _ ≡ length text = p.0 ∙ omega arith in
+    let l : _ ≡ length text = p.value ∙ omega arith in
     record {
       size = l;
-      bytes = p.1 ∙ ap (λ (k : ℕ). text ++ drop k was) l;
+      bytes = p.out_after ∙ ap (λ (k : ℕ). text ++ drop k was) l;
       fits = f;
     }
 
