@@ -2,12 +2,10 @@
 #![tactic(auto)]
 
 use choice_passes::table;
-use libc::STDOUT_FILENO;
+use std::io;
 
-fn main() {
-    check::expect(choice_passes::agrees(&table::PASSES));
-    io::write_all(
-        STDOUT_FILENO,
-        b"the table of passes left agrees with the rule at every hop\n",
-    );
+fn main(rt: HostRuntime) -> io::Result<()> {
+    let holds = choice_passes::agrees(&table::PASSES);
+    prove!(holds);
+    println!(rt; "the table of passes left agrees with the rule at every hop")
 }

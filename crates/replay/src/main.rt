@@ -1,6 +1,8 @@
 // The replay program: one call of the library for each line of text, and one line printed for each.
 #![tactic(auto)]
 
-fn main() {
-    stdio::run(session_programs::REPLAY);
+use std::process::ExitCode;
+
+fn main(rt: HostRuntime) -> ExitCode {
+    stdio::run_here(session_programs::REPLAY, rt)
 }

@@ -1,4 +1,4 @@
-// A program over standard input and output: lines to the end of the input, and their answers.
+// A program over an input and an output: lines to the end of the input, and their answers.
 #![tactic(auto)]
 
 ghost use Rattle.std.specs.Prelude.{◌≡◌, true, ◌⊎◌, ◌≤◌, length};
@@ -8,9 +8,13 @@ ghost use Rattle.session.specs.Session.{line_of, Ready, Leaves};
 ghost use Rattle.stdio_course.specs.declared.Course.TheVariants.{OutputLost};
 ghost use Rattle.stdio.specs.Run.{Stopped};
 
-use libc::{STDERR_FILENO, STDIN_FILENO, STDOUT_FILENO};
 use session::Session;
+use std::io::{Read, Write};
+use std::process::ExitCode;
 use stdio_course::Course;
+
+// How many bytes are read or written at once.
+const BUFFER: usize = 65536;
 
 // What the answers to a read leave: the session, and whether all of them were written.
 #[derive(Clone, Copy)]
@@ -27,7 +31,13 @@ pub struct Ending {
 }
 
 // Answers what a read gave, and writes the answers; a lost output is the last.
-fn answered(program: u8, s: Session, bytes: &[u8], out: &mut [u8]) -> Written
+fn answered<W: Write>(
+    program: u8,
+    s: Session,
+    bytes: &[u8],
+    out: &mut [u8],
+    output: &mut W,
+) -> Written
     requires ready { Ready s }
     requires longest_answer_in_bounds { longest_answer ≤ length out.old }
     ensures ready_2 { Ready result.session }
@@ -39,7 +49,7 @@ fn answered(program: u8, s: Session, bytes: &[u8], out: &mut [u8]) -> Written
     while from < bytes.len() {
         let turn = session::turn(program, left, bytes, from, out);
         let filled = turn.filled;
-        wrote = io::write_all(STDOUT_FILENO, &out[..filled]);
+        wrote = output.write_all(&out[..filled]).is_ok();
         left = turn.session;
         from = stdio_course::onward(wrote, turn.rest, bytes.len());
     }
@@ -50,7 +60,13 @@ fn answered(program: u8, s: Session, bytes: &[u8], out: &mut [u8]) -> Written
 }
 
 // At the end of the input, answers what is left of a line and writes the answer; how the run went then.
-fn closed(program: u8, s: Session, course: Course, out: &mut [u8]) -> Course
+fn closed<W: Write>(
+    program: u8,
+    s: Session,
+    course: Course,
+    out: &mut [u8],
+    output: &mut W,
+) -> Course
     requires ready { Ready s }
     requires longest_answer_in_bounds { longest_answer ≤ length out.old }
     ensures { (result ≡ course) ⊎ (result ≡ OutputLost) }
@@ -58,7 +74,7 @@ fn closed(program: u8, s: Session, course: Course, out: &mut [u8]) -> Course
     match course {
         Course::Ended => {
             let filled = session::at_end(program, s, out);
-            let wrote = io::write_all(STDOUT_FILENO, &out[..filled]);
+            let wrote = output.write_all(&out[..filled]).is_ok();
             stdio_course::after(0, wrote)
         }
         Course::On => Course::On,
@@ -67,47 +83,72 @@ fn closed(program: u8, s: Session, course: Course, out: &mut [u8]) -> Course
     }
 }
 
-// Tells on standard error what was lost.
-fn tell(course: Course) {
+// Tells what was lost.
+fn tell<E: Write>(course: Course, errors: &mut E) -> bool {
     match course {
-        Course::InputLost => {
-            io::write_all(
-                STDERR_FILENO,
-                b"input lost: standard input could not be read\n",
-            );
-        }
-        Course::OutputLost => {
-            io::write_all(
-                STDERR_FILENO,
-                b"output lost: standard output could not be written\n",
-            );
-        }
-        Course::On => {}
-        Course::Ended => {}
+        Course::InputLost => errors
+            .write_all(b"input lost: standard input could not be read\n")
+            .is_ok(),
+        Course::OutputLost => errors
+            .write_all(b"output lost: standard output could not be written\n")
+            .is_ok(),
+        Course::On => true,
+        Course::Ended => true,
     }
 }
 
 // Reads to the end of the input and answers its lines; a lost input or output stops it and is told.
-pub fn run(program: u8) -> Ending
+pub fn run<R: Read, W: Write, E: Write>(
+    program: u8,
+    input: &mut R,
+    output: &mut W,
+    errors: &mut E,
+) -> Ending
     ensures { Stopped result }
 {
     let mut s = session::start(program);
-    let mut input = io::large_buffer();
-    let mut output = io::large_buffer();
+    let mut bytes = [0u8; BUFFER];
+    let mut out = [0u8; BUFFER];
     let mut course = Course::On;
     let mut reads: u64 = 0;
     while reads < u64::MAX && stdio_course::reads_on(course) {
-        let got = libc::read(STDIN_FILENO, &mut input);
-        let n = io::count(got, &input);
-        let said = answered(program, s, &input[..n], &mut output);
+        let read = input.read(&mut bytes);
+        let n = match &read {
+            Ok(n) => *n,
+            Err(_) => 0,
+        };
+        let got = match &read {
+            Ok(n) => *n as isize,
+            Err(_) => -1,
+        };
+        let said = answered(program, s, &bytes[..n], &mut out, output);
         course = stdio_course::after(got, said.whole);
         s = said.session;
         reads += 1;
     }
-    let end = closed(program, s, course, &mut output);
-    tell(end);
+    let end = closed(program, s, course, &mut out, output);
+    tell(end, errors);
     Ending {
         course: end,
         reads: reads,
     }
+}
+
+// The status that a process ends with: a failure where input or output was lost.
+fn status(course: Course) -> ExitCode {
+    match course {
+        Course::InputLost => ExitCode::FAILURE,
+        Course::OutputLost => ExitCode::FAILURE,
+        Course::On => ExitCode::SUCCESS,
+        Course::Ended => ExitCode::SUCCESS,
+    }
+}
+
+// Runs over standard input and output, and tells on standard error what was lost.
+pub fn run_here(program: u8, rt: HostRuntime) -> ExitCode {
+    let mut input = rt.stdin();
+    let mut output = rt.stdout();
+    let mut errors = rt.stderr();
+    let ending = run(program, &mut input, &mut output, &mut errors);
+    status(ending.course)
 }
