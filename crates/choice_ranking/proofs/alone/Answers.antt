@@ -1,0 +1,6 @@
+-- The own clock's rank at the first place.
+use Rattle.choice.proofs.PlacesLaws.{alone_placed}
+use Rattle.choice_ranking.proofs.alone.Goals as goal
+
+pub returns : goal.returns
+returns c = alone_placed c.own-rank.ensures
