@@ -45,10 +45,10 @@ one_bits = 0x4220_0000_0000_0000
 pub ppm_small : (r : ℤ) → nat_abs r ≤ steepest → nat_abs (r *ℤ pos million) ≤ 2 ^ 53
 ppm_small r h = rw (nat_abs_mul r (pos million)) (omega arith)
 
-pub in_float : (z : ℤ) → nat_abs z ≤ 2 ^ 53 → T (in_float binary64 z)
+pub float_holds : (z : ℤ) → nat_abs z ≤ 2 ^ 53 → T (in_float binary64 z)
 unfolding in_float
-in_float (pos n) h = le→leb n (2 ^ 53) h
-in_float (negsuc n) h = lt→ltb n (2 ^ 53) h
+float_holds (pos n) h = le→leb n (2 ^ 53) h
+float_holds (negsuc n) h = lt→ltb n (2 ^ 53) h
 
 whole_exact : (z : ℤ) → nat_abs z ≤ 2 ^ 53 → HasValue (of_int binary64 z) (not (non_neg z)) (nat_abs z) 1
 unfolding of_int
