@@ -35,7 +35,7 @@ use Rattle.bridge.specs.Own.{own_clock_of}
 use Rattle.bridge.specs.Receive.{setting_at, receive_fields_of, receive_of}
 use Rattle.bridge.specs.Chosen.{chosen_of}
 use Rattle.bridge.specs.Send.{chosen_samples, sending_at, send_of, send_bytes}
-use Rattle.bridge.specs.Demands.{From, ListenerAnswers, candidates, NoWorse, Call, run, taken, FromListener, HeardListeners}
+use Rattle.bridge.specs.Demands.{From, ListenerAnswers, candidates, NoWorse, Call, run, FromListener, HeardListeners}
 use Rattle.bridge.specs.declared.Bridge.{Bridge}
 use Rattle.bridge.specs.declared.Done.{Done}
 use Rattle.numbers.proofs.Branches.{if_when, if_both}
