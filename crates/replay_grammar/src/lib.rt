@@ -12,6 +12,7 @@ use forms::Form;
 pub const LONGEST_LINE: usize = 515;
 
 // Whether there is a letter, and no more than any line has.
+#[tactic(auto, unfolding(crate::specs::Line::may_be_line))]
 fn may_be_line(text: &[u8]) -> bool
     ensures { result ≡ may_be_line text.now }
 {
@@ -22,6 +23,7 @@ fn may_be_line(text: &[u8]) -> bool
 }
 
 // What the fields of a text say, which are read here for both kinds of a line; no form where it is no line.
+#[tactic(auto, unfolding(crate::specs::Line::form_for), using(crate::proofs::LineLaws::line_some))]
 pub fn form(text: &[u8]) -> Form
     ensures { result ≡ form_for text.now }
 {
@@ -32,6 +34,7 @@ pub fn form(text: &[u8]) -> Form
 }
 
 // Whether a text leaves the state as it is: none at all, or with the letter of no call that changes it.
+#[tactic(auto, unfolding(crate::specs::Line::asks, crate::specs::Line::asks_by))]
 pub fn asks(text: &[u8]) -> bool
     ensures { result ≡ asks text.now }
 {

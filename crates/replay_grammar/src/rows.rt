@@ -22,6 +22,7 @@ const OR_DEFAULT: u8 = kind::NUMBER_OR_DEFAULT;
 const DELAY: u8 = kind::DELAY_OR_MEASURED;
 
 // The row of a plain line's letter; nothing follows C, nor a letter that no call has.
+#[tactic(auto, unfolding(crate::specs::Row::plain_row))]
 fn plain_row(letter: u8) -> [u8; 17]
     ensures { result ≡ plain_row letter }
 {
@@ -63,6 +64,7 @@ fn whole_setup_row() -> [u8; 17]
 }
 
 // The row of a letter: those of calls on a bridge, and then those of plain lines.
+#[tactic(auto, unfolding(crate::specs::Row::row_of))]
 pub fn row(letter: u8) -> [u8; 17]
     ensures { result ≡ row_of letter }
 {
