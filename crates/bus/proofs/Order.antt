@@ -4,7 +4,7 @@ use native.Mathlib.Omega.{arith}
 use Prim.Native.Nat.{◌^◌}
 use borrow.Author.Tests.{ltb-true, ltb-false}
 use lib.Dec.{ltb}
-use Rattle.refusals.specs.Order.{given, Lowest, nowhere}
+use Rattle.refusals.specs.Order.{Lowest, nowhere}
 use Rattle.times.specs.Times.{second, InRange}
 use Rattle.times.specs.declared.GrandTime.{GrandTime}
 use Rattle.bus.specs.Bus.{is_grand, is_bus, bus_time_of, outward_of, next_of, inward_of, cycle_time_of, register_of, outward_no, inward_no, register_no}
