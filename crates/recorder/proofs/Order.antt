@@ -14,7 +14,6 @@ use Rattle.times.specs.declared.GrandTime.{GrandTime}
 use Rattle.samples.specs.Rate.{parts, steepest, scaled_of, advance_of}
 use Rattle.samples.specs.Keep.{rate_between, ends_of, LawfulEnds}
 use Rattle.samples.specs.declared.Sample.{Sample}
-use Rattle.samples.specs.declared.Ends.TheVariants.{Both}
 use Rattle.timeline.specs.Line.{longest_reach, reading_at}
 use Rattle.bridge.specs.State.{Lawful}
 use Rattle.bridge.specs.Send.{chosen_samples}
