@@ -18,7 +18,7 @@ below_zero n h k = minus_is n (2 ^ 16) ∙ rw (lt-ltb n (2 ^ 16) k, le-ltb n (2 
 
 -- what a scale answers by the leap seconds as the machine hands them over, it answers by those of the line
 pub by_leap : {A : Type 0} (scale : ℤ → A) {answer : A} {read leap : ℤ} → mag read < 2 ^ 15 → answer ≡ scale (to_z w16 (of_z w16 read)) → read ≡ leap → answer ≡ scale leap
-by_leap scale f e l = e ∙ ap scale (to_z-of_z (record { sfits = f }) ∙ l)
+by_leap scale f e l = e ∙ ap scale (to_z-of_z {w = w16} (record { sfits = f }) ∙ l)
 
 -- what is printed for the case that an answer is found to be, is printed for what the call is to answer
 pub printed : {A : Type 0} (text : A → List ℕ) {want answer case : A} {len : ℕ} {was left : List ℕ} → answer ≡ want → answer ≡ case → Prints (text case) len was left
