@@ -69,6 +69,7 @@ fn setting(form: Form, i: usize) -> Setting
 }
 
 // The ports' part of the setup, eight fields from field i on.
+#[tactic(auto, unfolding(crate::specs::Argument::settings_in))]
 fn settings(form: Form, i: usize) -> [Setting; 8]
     requires { i ≤ 8 }
     ensures { result ≡ settings_in form i }
@@ -86,6 +87,7 @@ fn settings(form: Form, i: usize) -> [Setting; 8]
 }
 
 // The ports' versions, as V says them.
+#[tactic(auto, unfolding(crate::specs::Argument::versions_in))]
 fn versions(b: [u8; 256]) -> [u8; 8]
     ensures { result ≡ versions_in b }
 {
@@ -102,6 +104,7 @@ fn versions(b: [u8; 256]) -> [u8; 8]
 }
 
 // What Setup is given by the fields from n on, which every line has, with a profile and versions.
+#[tactic(auto, unfolding(crate::specs::Argument::setup_from))]
 fn from(form: Form, n: usize, profile: Profile, versions: [u8; 8]) -> Setup
     requires { n ≤ 1 }
     ensures { result ≡ setup_from form n profile versions }
@@ -123,6 +126,7 @@ fn from(form: Form, n: usize, profile: Profile, versions: [u8; 8]) -> Setup
 }
 
 // What Setup is given by a line with this letter.
+#[tactic(auto, unfolding(crate::specs::Argument::setup_in))]
 pub fn given(letter: u8, form: Form) -> Setup
     ensures { result ≡ setup_in letter form }
 {
