@@ -7,7 +7,7 @@ ghost use Rattle.bridge.specs.Promises.{RankedPromise};
 use bridge::Bridge;
 use choice::Candidate;
 
-// Ranked: the candidate at a place, 0 the chosen one, 1 the runner_up; or none.
+// Ranked: the candidate at a place, 0 the chosen one, 1 the runner-up; or none.
 pub fn ranked(b: Bridge, place: u8) -> Candidate
     requires { Lawful b }
     ensures { RankedPromise b place result }
