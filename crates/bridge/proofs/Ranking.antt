@@ -170,7 +170,7 @@ aged_not_shown b at i lawful h z e old =
     (age_lawful b at lawful)
     z
 
--- ---- the runner_up, over a call
+-- ---- the runner-up, over a call
 
 module _ (b : Bridge) (mask i : ℕ) (alone : (j : ℕ) → loses_link b.links mask j ≡ eqb j i) where
   -- every record but this one is as it was
@@ -194,7 +194,7 @@ module _ (b : Bridge) (mask i : ℕ) (alone : (j : ℕ) → loses_link b.links m
       ∙ sym (candidate_there b j)
       ∙ ap (ranked_at (candidates b)) (add-one j)
 
--- WHERE THE CHOSEN PORT ALONE LOSES ITS LINK, the runner_up is chosen
+-- WHERE THE CHOSEN PORT ALONE LOSES ITS LINK, the runner-up is chosen
 pub runner_up_next : (b : Bridge) (mask i : ℕ) {p : Precedence} {hop : ℕ} → Lawful b → i < most_ports → chosen_of b ≡ Clock p hop (i + 1) → link_no (links_of b mask).answer ≡ 0
     → ((j : ℕ) → loses_link b.links mask j ≡ eqb j i) → chosen_of (links_of b mask).next ≡ ranked_of b 1
 unfolding links_of ranked_of
