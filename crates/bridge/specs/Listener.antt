@@ -73,7 +73,7 @@ third = send_bytes sent_twice 1 0x010603040506 untouched
 abbrev pub echoing : List ℕ
 echoing = send_bytes (receive_of (receive_of sent_twice 1 first 0x0A0B0C0D0E0F).next 1 second 0x0A0D0C0D0E0F).next 1 0x010603040506 untouched
 
--- what each of these is: da; sa; protocol_type, function and version; thirteen bytes FF; hopCount 254, frameCount, zero; grandTime; localTime; thatTxTime,
+-- what each of these is: da; sa; protocolType, function and version; thirteen bytes FF; hopCount 254, frameCount, zero; grandTime; localTime; thatTxTime,
 -- thatRxTime; errorTime
 abbrev pub listened : ℕ → List ℕ → List ℕ → List ℕ → List ℕ
 listened count local tx rx =

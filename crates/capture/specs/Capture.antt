@@ -28,11 +28,11 @@ listing_back = 10995116278
 unfoldable pub start_of : Bridge
 start_of = (links_of (setup_of (plain_setup listing_ports default_timeout listing_back)).next both_linked).next
 
--- the number_bytes of a line
+-- the digits of a line
 abbrev pub line_digits : ℕ
 line_digits = 142
 
--- s is 142 number_bytes
+-- s is 142 digits
 abbrev pub is_line : List ℕ → Bool
 is_line s = exactly line_digits s
 
