@@ -1,12 +1,15 @@
 // A program over an input and an output: lines to the end of the input, and their answers.
 #![tactic(auto)]
 
-ghost use Rattle.std.specs.Prelude.{◌≡◌, true, ◌⊎◌, ◌≤◌, length};
+ghost use Rattle.std.specs.Prelude.{◌≡◌, true, ◌⊎◌, ◌^◌, ◌<◌, ◌≤◌, length, FitsSigned};
+ghost use Rattle.std.specs.Int.{w64};
+ghost use Rattle.std.specs.Io.KnownBytes.{Appends};
 ghost use Rattle.columns.specs.Columns.{longest_answer};
 ghost use Rattle.session.specs.Lines.{fed_of};
+ghost use Rattle.session.specs.Input.{rest_text};
 ghost use Rattle.session.specs.Session.{line_of, Ready, Leaves};
-ghost use Rattle.stdio_course.specs.declared.Course.TheVariants.{OutputLost};
-ghost use Rattle.stdio.specs.Run.{Stopped};
+ghost use Rattle.stdio_course.specs.declared.Course.TheVariants.{Ended, OutputLost};
+ghost use Rattle.stdio.specs.Run.{Stopped, Gave, Answered};
 
 use session::Session;
 use std::io::{Read, Write};
@@ -23,11 +26,45 @@ struct Written {
     whole: bool,
 }
 
+// What a read answered, a number below zero where it failed, and how many bytes it gave.
+#[derive(Clone, Copy)]
+struct Taken {
+    got: isize,
+    n: usize,
+}
+
 // A run that has stopped: how it went, and how many reads it made.
 #[derive(Clone, Copy)]
 pub struct Ending {
     pub course: Course,
     pub reads: u64,
+}
+
+// Reads some bytes.
+fn read_some<R: Read>(input: &mut R, bytes: &mut [u8]) -> Taken
+    requires room { 0 < length bytes.old }
+    requires room_in_bounds { length bytes.old < 2 ^ 63 }
+    ensures fits { FitsSigned w64 result.got }
+    ensures inside { result.n ≤ length bytes.new }
+    ensures gave { Gave result.got result.n (R.remaining input.old) (R.remaining input.new) bytes.new }
+{
+    match input.read(bytes) {
+        Ok(n) => Taken {
+            got: n as isize,
+            n: n,
+        },
+        Err(_) => Taken { got: -1, n: 0 },
+    }
+}
+
+// Writes bytes; whether all of them were written.
+fn put<W: Write>(output: &mut W, bytes: &[u8]) -> bool
+    ensures { result ≡ true → Appends (W.contents output.old) (W.contents output.new) bytes.now }
+{
+    match output.write_all(bytes) {
+        Ok(()) => true,
+        Err(_) => false,
+    }
 }
 
 // Answers what a read gave, and writes the answers; a lost output is the last.
@@ -42,6 +79,8 @@ fn answered<W: Write>(
     requires longest_answer_in_bounds { longest_answer ≤ length out.old }
     ensures ready_2 { Ready result.session }
     ensures leaves { result.whole ≡ true → Leaves (fed_of program s.bridge (line_of s) bytes.now) result.session }
+    ensures writes { result.whole ≡ true →
+        Appends (W.contents output.old) (W.contents output.new) (fed_of program s.bridge (line_of s) bytes.now).text }
 {
     let mut left = s;
     let mut from: usize = 0;
@@ -49,7 +88,7 @@ fn answered<W: Write>(
     while from < bytes.len() {
         let turn = session::turn(program, left, bytes, from, out);
         let filled = turn.filled;
-        wrote = output.write_all(&out[..filled]).is_ok();
+        wrote = put(output, &out[..filled]);
         left = turn.session;
         from = stdio_course::onward(wrote, turn.rest, bytes.len());
     }
@@ -69,12 +108,14 @@ fn closed<W: Write>(
 ) -> Course
     requires ready { Ready s }
     requires longest_answer_in_bounds { longest_answer ≤ length out.old }
-    ensures { (result ≡ course) ⊎ (result ≡ OutputLost) }
+    ensures went_on { (result ≡ course) ⊎ (result ≡ OutputLost) }
+    ensures writes { result ≡ Ended →
+        Appends (W.contents output.old) (W.contents output.new) (rest_text program s.bridge (line_of s)) }
 {
     match course {
         Course::Ended => {
             let filled = session::at_end(program, s, out);
-            let wrote = output.write_all(&out[..filled]).is_ok();
+            let wrote = put(output, &out[..filled]);
             stdio_course::after(0, wrote)
         }
         Course::On => Course::On,
@@ -86,12 +127,11 @@ fn closed<W: Write>(
 // Tells what was lost.
 fn tell<E: Write>(course: Course, errors: &mut E) -> bool {
     match course {
-        Course::InputLost => errors
-            .write_all(b"input lost: standard input could not be read\n")
-            .is_ok(),
-        Course::OutputLost => errors
-            .write_all(b"output lost: standard output could not be written\n")
-            .is_ok(),
+        Course::InputLost => put(errors, b"input lost: standard input could not be read\n"),
+        Course::OutputLost => put(
+            errors,
+            b"output lost: standard output could not be written\n",
+        ),
         Course::On => true,
         Course::Ended => true,
     }
@@ -104,7 +144,9 @@ pub fn run<R: Read, W: Write, E: Write>(
     output: &mut W,
     errors: &mut E,
 ) -> Ending
-    ensures { Stopped result }
+    ensures stopped { Stopped result }
+    ensures answered { result.course ≡ Ended →
+        Answered program (R.remaining input.old) (W.contents output.old) (W.contents output.new) }
 {
     let mut s = session::start(program);
     let mut bytes = [0u8; BUFFER];
@@ -112,17 +154,9 @@ pub fn run<R: Read, W: Write, E: Write>(
     let mut course = Course::On;
     let mut reads: u64 = 0;
     while reads < u64::MAX && stdio_course::reads_on(course) {
-        let read = input.read(&mut bytes);
-        let n = match &read {
-            Ok(n) => *n,
-            Err(_) => 0,
-        };
-        let got = match &read {
-            Ok(n) => *n as isize,
-            Err(_) => -1,
-        };
-        let said = answered(program, s, &bytes[..n], &mut out, output);
-        course = stdio_course::after(got, said.whole);
+        let read = read_some(input, &mut bytes);
+        let said = answered(program, s, &bytes[..read.n], &mut out, output);
+        course = stdio_course::after(read.got, said.whole);
         s = said.session;
         reads += 1;
     }

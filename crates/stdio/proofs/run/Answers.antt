@@ -1,0 +1,53 @@
+-- Read by read, and then the end.
+use mathlib.Core.Path.{◌≡◌, refl, sym, ap, ◌∙◌, subst}
+use mathlib.Core.Bool.{true}
+use native.Mathlib.Omega.{arith}
+use Rattle.std.proofs.Common.{ℤ, w64}
+use Rattle.std.proofs.lemmas.Int.{to_z-of_z}
+use Rattle.stdio_course.specs.declared.Course.{Course}
+use Rattle.stdio_course.specs.Course.{course_after}
+use Rattle.stdio.proofs.Whole.{going, on_of, was_ended, Told, told_none, told_more, told_whole}
+use Rattle.stdio.proofs.run.Goals as goal
+
+pub loop-reads-init : goal.loop-reads-init
+loop-reads-init g c =
+    (c.start-s.ensures.ready, refl, refl, omega arith, λ _. told_none c.args.program c.start-s.result _ _ c.start-s.ensures.ready)
+
+pub loop-reads-preserved : goal.loop-reads-preserved
+loop-reads-preserved g c =
+    let l = c.loop-reads in
+    let p = c.args.program in
+    let s₀ = c.start-s.result in
+    let had = g.R.Read.remaining c.args.input.now in
+    let held = g.W.Write.contents c.args.output.now in
+    let has = g.R.Read.remaining l.input in
+    let holds = g.W.Write.contents l.output in
+    let s₁ = c.answered-said.result.session in
+    let has₁ = g.R.Read.remaining c.read_some-read.new.input in
+    let holds₁ = g.W.Write.contents c.answered-said.new.output in
+    let read = c.read_some-read.result in
+    let said = c.answered-said.ensures in
+    let on = on_of l.course (sym c.reads_on.ensures ∙ c.if-reads_on.true) in
+    let told = subst (λ (x : Course). going x ≡ true → Told p s₀ had held x l.s has holds) on l.invariant.4 refl in
+    let after = c.after-course.ensures ∙ ap (λ (z : ℤ). course_after z c.answered-said.result.whole) (to_z-of_z w64 read.got c.read_some-read.ensures.fits) in
+    let more = told_more p s₀ had held l.s has holds read.got read.n c.answered-said.result.whole c.read_some-read.new.bytes s₁ has₁ holds₁
+    told c.read_some-read.ensures.gave said.leaves said.writes in (
+      said.ready_2,
+      c.read_some-read.auto.bytes ∙ l.invariant.1,
+      c.answered-said.auto.out ∙ l.invariant.2,
+      omega (arith, c.loop-reads-test.true),
+      subst (λ (x : Course). going x ≡ true → Told p s₀ had held x s₁ has₁ holds₁) (sym after) more,
+    )
+
+pub returns-clause-answered : goal.returns-clause-answered
+returns-clause-answered g c = λ e.
+    let l = c.loop-reads in
+    let p = c.args.program in
+    let s₀ = c.start-s.result in
+    let had = g.R.Read.remaining c.args.input.now in
+    let held = g.W.Write.contents c.args.output.now in
+    let has = g.R.Read.remaining l.input in
+    let holds = g.W.Write.contents l.output in
+    let ended = was_ended c.closed-end.result l.course c.closed-end.ensures.went_on e in
+    let told = subst (λ (x : Course). going x ≡ true → Told p s₀ had held x l.s has holds) ended l.invariant.4 refl in
+    told_whole p s₀ had held l.s has holds _ c.start-s.ensures.bridge_value c.start-s.ensures.result_value told (c.closed-end.ensures.writes e)
