@@ -16,7 +16,7 @@ use Rattle.bridge.specs.declared.Bridge.{Bridge}
 use Rattle.columns.specs.Columns.{longest_answer, Prints}
 use Rattle.answer.specs.Answer.{Answer}
 use Rattle.session_programs.specs.Programs.{answer_by}
-use Rattle.session.specs.Lines.{part, line_end, Fed, left, saying, ended, fed_of, shown_of, Ends}
+use Rattle.session.specs.Lines.{part, line_end, Fed, saying, ended, fed_of, shown_of, Ends}
 use Rattle.session.proofs.FedLaws.{printed, answered, line_fed, more_fed}
 
 -- nothing stands before the mark where the mark stands
