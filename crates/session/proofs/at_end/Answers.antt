@@ -11,6 +11,6 @@ returns-clause-out_after c =
     let a = c.args in
     let e = c.turn-end.ensures in
     let whole : c.turn-end.result.rest ≡ 1 = omega (arith, e.within.inside, e.moves (omega arith)) in
-    let left : 0 < length (line_of a.s) = rw (length-take a.s.len a.s.text) (omega (arith, c.if-s-eq0.false, c.requires.ready.short, c.requires.ready.room)) in
+    let left : 0 < length (line_of a.s) = rw (length-take a.s.len a.s.text) (omega (arith, c.requires.ready.short, c.requires.ready.room)) in
     let one = ap (λ (n : ℕ). (fed_of a.program a.s.bridge (line_of a.s) (part (newline ∷ []) 0 n)).text) whole in
     e.text ∙ one ∙ newline_ends a.program a.s.bridge (line_of a.s) left
