@@ -1,5 +1,6 @@
 pub mod Chain
 pub mod Refusals
+pub mod Answer
 pub mod Order
 pub mod Promises
 pub mod Literals
