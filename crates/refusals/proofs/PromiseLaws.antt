@@ -16,9 +16,9 @@ module _ {A : Type 0} (given : A) where
   as_told t e = record { answer = e; number = ap answer_number e ∙ t.0; value = ap answer_value e ∙ t.1 }
 
   -- one test more before an answer
-  pub test_told : {x y : Result A Refusal} {n k : ℕ} → Told x n → Told y k → (t : Bool) → Told (cond t x y) (unless t k n)
-  test_told x y true = x
-  test_told x y false = y
+  pub test_told : (x y : Result A Refusal) {n k : ℕ} → Told x n → Told y k → (t : Bool) → Told (cond t x y) (unless t k n)
+  test_told x y p q true = p
+  test_told x y p q false = q
 
 -- two outcomes of a promise are equal
 pub answer_one : {A : Type 0} (said : Result A Refusal) (refusal : ℕ) (given : A) (x y : Result A Refusal)
