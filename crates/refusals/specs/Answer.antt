@@ -27,3 +27,8 @@ require false refusal rest = Err refusal
 abbrev pub and_then : {A : Type 0} → Result ⊤ Refusal → Result A Refusal → Result A Refusal
 and_then (Ok _) rest = rest
 and_then (Err refusal) rest = Err refusal
+
+-- an answer without what it carries
+abbrev pub told : {A : Type 0} → Result A Refusal → Result ⊤ Refusal
+told (Ok _) = granted
+told (Err refusal) = Err refusal
