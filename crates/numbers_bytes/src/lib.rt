@@ -4,24 +4,15 @@
 ghost use Rattle.std.specs.Prelude.{◌≡◌, ◌+◌, ◌<◌, ◌≤◌, ◌^◌, length};
 ghost use Rattle.numbers.specs.Bytes.{onto, number_at, number_bytes, spliced};
 
-// A byte as a wider number.
-fn wide(x: u8) -> u64
-    ensures { result ≡ x }
-{
-    x as u64
-}
-
 // The number whose bytes are s.
 pub fn number(s: &[u8]) -> u64
     requires { length s.now ≤ 8 }
     ensures value { result ≡ onto 0 s.now }
     ensures upper_bound { result < 256 ^ length s.now }
 {
-    let mut v: u64 = 0;
-    let mut i = 0;
-    while i < s.len() {
-        v = v * 256 + wide(s[i]);
-        i += 1;
+    let mut v = 0;
+    for x in s {
+        v = v * 256 + u64::from(*x);
     }
     v
 }
@@ -40,11 +31,9 @@ pub fn put(out: &mut [u8], v: u64)
     ensures { out.new ≡ number_bytes (length out.old) v }
 {
     let mut rest = v;
-    let mut i = out.len();
-    while 0 < i {
-        i -= 1;
+    for i in (0..out.len()).rev() {
         out[i] = (rest % 256) as u8;
-        rest = rest / 256;
+        rest /= 256;
     }
 }
 

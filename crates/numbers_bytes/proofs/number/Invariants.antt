@@ -1,11 +1,8 @@
 use mathlib.Core.Path.{◌≡◌}
-use Prim.Native.Nat.{◌≤◌, ◌<◌, ◌-◌, ◌^◌}
-use lib.ListN.{length, drop}
+use Prim.Native.Nat.{◌<◌, ◌^◌}
+use lib.ListN.{drop}
 use Rattle.numbers.specs.Bytes.{onto}
 use Rattle.numbers_bytes.proofs.number.Given as goal
 
-abbrev pub invariant-loop-i : goal.invariant-loop-i
-invariant-loop-i l = (l.i ≤ length l.s) × (l.v < 256 ^ l.i) × (onto l.v (drop l.i l.s) ≡ onto 0 l.s)
-
-abbrev pub decreases-loop-i : goal.decreases-loop-i
-decreases-loop-i l = length l.s - l.i
+abbrev pub invariant-loop-x : goal.invariant-loop-x
+invariant-loop-x l = (l.v < 256 ^ l.x-index) × (onto l.v (drop l.x-index l.s) ≡ onto 0 l.s)

@@ -4,7 +4,6 @@ use lib.Seq.{length-take-le}
 use native.Mathlib.Nat.{add-sub_cancel_left}
 use lib.ListN.{length-drop, length}
 use native.Mathlib.Omega.{arith}
-use borrow.Author.Rules.{rules}
 use Rattle.numbers_bytes.proofs.number_at.Goals as goal
 
 pub returns : goal.returns
