@@ -1,13 +1,11 @@
 -- Laws of times: the difference round a circle, the count that follows, and a grand time and the moment of its units.
-use Rattle.std.proofs.Common.{◌≡◌, ℕ, zero, suc, ◌+◌, ◌-◌, ◌*◌, ◌/◌, ◌%◌, ◌^◌, ◌<◌, ◌≤◌, ltb, ℤ, pos, negsuc, ◌-ℤ◌, nat_abs, sym, refl, ap, ◌∙◌, mod-lt, mod-eq_of_lt, lt_of_not-le, arith, ltb-false, ltb-true, le-ltb, lt-ltb}
+use Rattle.std.proofs.Common.{◌≡◌, ℕ, zero, suc, ◌+◌, ◌-◌, ◌*◌, ◌/◌, ◌%◌, ◌^◌, ◌<◌, ◌≤◌, ltb, ℤ, pos, negsuc, ◌-ℤ◌, Option, Some, None, nat_abs, sym, refl, ap, ◌∙◌, mod-lt, mod-eq_of_lt, lt_of_not-le, arith, ltb-false, ltb-true, le-ltb, lt-ltb}
 use native.Mathlib.Nat.{add-mod, add-mod_right, mod-eq-sub-mod, mod-mod_of_dvd, dvd_of_mod-eq-zero}
 use native.Mathlib.Decide.{dec_le}
 use lib.IntN.{pos-ne-negsuc}
 use Rattle.times.specs.Times.{circle, second, grand_end, around_of, since_of, units, grand_of, InRange, moment_of, counts, next_count}
 use Rattle.times.specs.declared.LocalTime.{LocalTime}
 use Rattle.times.specs.declared.GrandTime.{GrandTime}
-use Rattle.times.specs.declared.Moment.{Moment}
-use Rattle.times.specs.declared.Moment.TheVariants.{At, Beyond}
 use Rattle.numbers.proofs.Branches.{if_when}
 
 -- a difference is less than the circle
@@ -69,24 +67,24 @@ units_lt g r = omega arith
 
 -- ---- the moment of a whole number of units
 
-pub moment_at : (g : GrandTime) (z : ℤ) → InRange g → pos (units g) ≡ z → At g ≡ moment_of z
+pub moment_at : (g : GrandTime) (z : ℤ) → InRange g → pos (units g) ≡ z → Some g ≡ moment_of z
 unfolding moment_of
 moment_at g z r e =
-    rw (← e, lt-ltb (units g) grand_end (units_lt g r)) (ap At (grand_is g (units g) r.fraction refl))
+    rw (← e, lt-ltb (units g) grand_end (units_lt g r)) (ap Some (grand_is g (units g) r.fraction refl))
 
 -- too late, and too early
-pub moment_end : (n : ℕ) → grand_end ≤ n → Beyond ≡ moment_of (pos n)
+pub moment_end : (n : ℕ) → grand_end ≤ n → None ≡ moment_of (pos n)
 unfolding moment_of
 moment_end n h = rw (le-ltb n grand_end h)
 
-pub moment_under : (a b : ℕ) → a < b → Beyond ≡ moment_of (pos a -ℤ pos b)
+pub moment_under : (a b : ℕ) → a < b → None ≡ moment_of (pos a -ℤ pos b)
 unfolding moment_of
 moment_under a zero h = absurd (omega arith)
 moment_under a (suc b) h = rw (lt-ltb a (suc b) h)
 
--- what holds of a grand time in range, of so many units, and of Beyond where the units reach the end or are below zero, holds of the moment
-pub moment_is : (P : Moment → Type 0) (z : ℤ) → ((g : GrandTime) → InRange g → pos (units g) ≡ z → P (At g))
-    → (((n : ℕ) → z ≡ pos n → grand_end ≤ n) → P Beyond) → P (moment_of z)
+-- what holds of a grand time in range, of so many units, and of None where the units reach the end or are below zero, holds of the moment
+pub moment_is : (P : Option GrandTime → Type 0) (z : ℤ) → ((g : GrandTime) → InRange g → pos (units g) ≡ z → P (Some g))
+    → (((n : ℕ) → z ≡ pos n → grand_end ≤ n) → P None) → P (moment_of z)
 unfolding moment_of
 moment_is P (pos n) at beyond =
     if_when P (ltb n grand_end)

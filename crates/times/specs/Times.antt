@@ -1,17 +1,11 @@
 -- Times: the circle of local time, grand time as one number, errorTime as a signed number, the count of frames.
-use Rattle.std.specs.Prelude.{ℕ, ◌+◌, ◌-◌, ◌*◌, ◌/◌, ◌%◌, ◌^◌, ◌<◌, cond, ◌&&◌, ℤ, pos, negsuc, nat_le, nat_lt}
+use Rattle.std.specs.Prelude.{ℕ, ◌+◌, ◌-◌, ◌*◌, ◌/◌, ◌%◌, ◌^◌, ◌<◌, cond, ◌&&◌, ℤ, pos, negsuc, nat_le, nat_lt, Option, Some, None}
 use Rattle.std.specs.Int.Signed.{mag}
 use Rattle.std.specs.Int.{w32}
 use Rattle.std.proofs.Common.{to_z, of_z}
 use Rattle.times.specs.declared.LocalTime.{LocalTime}
 use Rattle.times.specs.declared.GrandTime.{GrandTime}
 use Rattle.times.specs.declared.ErrorTime.{ErrorTime}
-use Rattle.times.specs.declared.Moment.{Moment}
-use Rattle.times.specs.declared.Moment.TheVariants.{At, Beyond}
-use Rattle.times.specs.declared.ErrorWithin.{ErrorWithin}
-use Rattle.times.specs.declared.ErrorWithin.TheVariants as Errors
-use Rattle.times.specs.declared.Rise.{Rise}
-use Rattle.times.specs.declared.Rise.TheVariants.{By, Far}
 
 -- the units of local time's circle
 abbrev pub circle : ℕ
@@ -51,13 +45,13 @@ pub record InRange (g : GrandTime) : Type 0 where
   pub fraction : g.1 < second
 
 -- the grand time of a whole number of units, where there is one: no less than 0, and below the end of grand time
-unfoldable pub moment_of : ℤ → Moment
-moment_of (pos n) = cond (nat_lt n grand_end) (At (grand_of n)) Beyond
-moment_of (negsuc n) = Beyond
+unfoldable pub moment_of : ℤ → Option GrandTime
+moment_of (pos n) = cond (nat_lt n grand_end) (Some (grand_of n)) None
+moment_of (negsuc n) = None
 
 -- a rise from a to b that is no less than 0 and below a second
-unfoldable pub rise_within : ℕ → ℕ → Rise
-rise_within a b = cond (nat_le a b && nat_lt (b - a) second) (By (b - a)) Far
+unfoldable pub rise_within : ℕ → ℕ → Option ℕ
+rise_within a b = cond (nat_le a b && nat_lt (b - a) second) (Some (b - a)) None
 
 -- errorTime as a signed number
 abbrev pub error_of : ErrorTime → ℤ
@@ -68,8 +62,8 @@ abbrev pub error_end : ℕ
 error_end = 2 ^ 31
 
 -- the errorTime of a whole number of units, where there is one: from -2^31 to 2^31 - 1
-unfoldable pub error_time_of : ℤ → ErrorWithin
-error_time_of z = cond (nat_lt (mag z) error_end) (Errors.Is (record { 0 = of_z w32 z })) Errors.Beyond
+unfoldable pub error_time_of : ℤ → Option ErrorTime
+error_time_of z = cond (nat_lt (mag z) error_end) (Some (record { 0 = of_z w32 z })) None
 
 -- how many frameCounts there are, and the one that follows: the theorem `count_is` says that this is c - 255, modulo 256
 abbrev pub counts : ℕ

@@ -2,7 +2,7 @@
 ghost use Rattle.std.specs.Prelude.{◌≡◌};
 ghost use Rattle.times.specs.Times.{error_of, error_time_of};
 
-use crate::{ErrorTime, ErrorWithin};
+use crate::ErrorTime;
 
 // How many errorTimes there are, and where those above zero end.
 const ALL: u64 = 0x1_0000_0000;
@@ -13,7 +13,7 @@ const END: u64 = 0x8000_0000;
 pub fn signed(e: ErrorTime) -> i64
     ensures { result ≡ error_of e }
 {
-    let bits = e.0 as u64;
+    let bits = u64::from(e.0);
     if bits < END {
         numbers_whole::from_unsigned(bits)
     } else {
@@ -22,18 +22,18 @@ pub fn signed(e: ErrorTime) -> i64
 }
 
 // The errorTime of a signed number, where it has 32 bits.
-pub fn of_signed(z: i64) -> ErrorWithin
+pub fn of_signed(z: i64) -> Option<ErrorTime>
     ensures { result ≡ error_time_of z }
 {
     let size = numbers_whole::abs(z);
     if numbers_whole::is_negative(z) {
         if END < size {
-            return ErrorWithin::Beyond;
+            return None;
         }
-        return ErrorWithin::Is(ErrorTime((ALL - size) as u32));
+        return Some(ErrorTime((ALL - size) as u32));
     }
     if END <= size {
-        return ErrorWithin::Beyond;
+        return None;
     }
-    ErrorWithin::Is(ErrorTime(size as u32))
+    Some(ErrorTime(size as u32))
 }

@@ -18,24 +18,3 @@ pub struct GrandTime(pub u64, pub u64);
 // An errorTime in U: its 32 bits, in two's complement.
 #[derive(Clone, Copy)]
 pub struct ErrorTime(pub u32);
-
-// A grand time, or that it would be below zero or reach the end of grand time.
-#[derive(Clone, Copy)]
-pub enum Moment {
-    At(GrandTime),
-    Beyond,
-}
-
-// An errorTime, or that it would leave its 32 bits.
-#[derive(Clone, Copy)]
-pub enum ErrorWithin {
-    Is(ErrorTime),
-    Beyond,
-}
-
-// By how much grand time rose, where it rose by less than a second.
-#[derive(Clone, Copy)]
-pub enum Rise {
-    By(u64),
-    Far,
-}

@@ -38,5 +38,5 @@ pub fn earlier_by(t: LocalTime, n: u64) -> LocalTime
 pub fn next_count(count: u8) -> u8
     ensures { result ≡ next_count count }
 {
-    around(count as u64, LAST_COUNT, COUNTS) as u8
+    around(u64::from(count), LAST_COUNT, COUNTS) as u8
 }

@@ -1,9 +1,8 @@
 -- The difference of the fractions, with a second borrowed where it is below zero and there is one to borrow.
-use Rattle.std.proofs.Common.{◌≡◌, ◌+◌, pos, ◌-ℤ◌, arith}
+use Rattle.std.proofs.Common.{◌≡◌, ◌+◌, pos, ◌-ℤ◌, Some, arith}
 use Rattle.numbers.proofs.Ring.{minus_pos}
 use Rattle.times.specs.Times.{units, InRange, moment_of}
 use Rattle.times.specs.declared.GrandTime.{GrandTime}
-use Rattle.times.specs.declared.Moment.TheVariants.{At}
 use Rattle.times.proofs.TimeLaws.{moment_at, moment_under}
 use Rattle.times.proofs.grand.earlier.Goals as goal
 use Rattle.times.proofs.grand.earlier.Goals.{After-struct_known-2-1, Start}
@@ -13,7 +12,7 @@ abbrev start : After-struct_known-2-1 → Start
 start k = k.before.before.before
 
 -- a grand time n below g
-lies : (s : Start) (h : GrandTime) → InRange h → s.args.n + units h ≡ units s.args.g → At h ≡ moment_of (pos (units s.args.g) -ℤ pos s.args.n)
+lies : (s : Start) (h : GrandTime) → InRange h → s.args.n + units h ≡ units s.args.g → Some h ≡ moment_of (pos (units s.args.g) -ℤ pos s.args.n)
 lies s h r e = moment_at h _ r (minus_pos s.args.n (units s.args.g) (units h) e)
 
 pub returns-then-n-g : goal.returns-then-n-g

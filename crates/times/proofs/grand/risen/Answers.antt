@@ -6,14 +6,8 @@ use Rattle.times.proofs.grand.risen.Goals as goal
 pub returns-then-a-b-2 : goal.returns-then-a-b-2
 returns-then-a-b-2 c = rise_by _ _ _ (omega arith) (omega arith)
 
-pub returns-then-a-b : goal.returns-then-a-b
-returns-then-a-b c = rise_far _ _ (λ h k. omega arith)
-
 pub returns-then-b-a : goal.returns-then-b-a
 returns-then-b-a c = rise_by _ _ _ (omega arith) (omega arith)
 
-pub returns-else-b-a : goal.returns-else-b-a
-returns-else-b-a c = rise_far _ _ (λ h k. omega arith)
-
-pub returns-else-a-b-3 : goal.returns-else-a-b-3
-returns-else-a-b-3 c = rise_far _ _ (λ h k. omega arith)
+pub returns : goal.returns
+returns c = rise_far _ _ (λ h k. omega (arith, c.else-a-b.either, c.else-a-b-3.either))

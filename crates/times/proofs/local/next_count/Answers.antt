@@ -4,4 +4,4 @@ use Rattle.times.proofs.TimeLaws.{count_is}
 use Rattle.times.proofs.local.next_count.Goals as goal
 
 pub returns : goal.returns
-returns c = c.around.ensures ∙ count_is _
+returns c = c.around.ensures ∙ rw c.from.ensures (count_is _)
