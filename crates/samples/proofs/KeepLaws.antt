@@ -5,6 +5,7 @@ use Prim.Native.Nat.{ℕ, ◌+◌, ◌%◌, ◌<◌, ◌≤◌}
 use native.Mathlib.Omega.{arith}
 use lib.Dec.{lit<, lit≤}
 use lib.IntN.{ℤ, pos, nat_abs, sub_ℕ, ◌-ℤ◌}
+use Rattle.std.proofs.Common.{Some, None}
 use mir.Syntax.{w32}
 use mir.Val.{of_z}
 use Rattle.times.specs.Times.{circle, second, since_of, units, error_of}
@@ -14,8 +15,7 @@ use Rattle.samples.specs.Demands.{OldestIs, NewestIs}
 use Rattle.samples.specs.declared.Sample.{Sample}
 use Rattle.samples.specs.declared.Samples.{Samples}
 use Rattle.samples.specs.declared.Samples.TheVariants.{Empty, One, Two, Three}
-use Rattle.samples.specs.declared.Ends.TheVariants.{Few, Both}
-use Rattle.samples.specs.declared.Gain.TheVariants.{Within, Outside}
+use Rattle.samples.specs.declared.Ends.{Ends}
 use Rattle.numbers.proofs.Ring.{minus_is, neg_pos, sub_add, sub_ge, sub_ge2}
 use Rattle.times.proofs.ErrorLaws.{error_bits}
 use Rattle.times.proofs.TestLaws.{both_hold, refuted}
@@ -34,12 +34,12 @@ abbrev pub Meet : Sample → Sample → Type 0
 Meet a b = Limits (gained_of a b) (spread_of a b)
 
 -- there is a gain exactly where they do
-pub gain_limits : (a b : Sample) (d : ℤ) → Within d ≡ gain_between a b → limits_between a b ≡ true
+pub gain_limits : (a b : Sample) (d : ℤ) → Some d ≡ gain_between a b → limits_between a b ≡ true
 gain_limits a b d e =
     let g = within_gain (rise_of a b) (spread_of a b) d e in
     limits_true (gained_of a b) (spread_of a b) (rw g.0 at g.1)
 
-pub no_gain_limits : (a b : Sample) → Outside ≡ gain_between a b → limits_between a b ≡ false
+pub no_gain_limits : (a b : Sample) → None ≡ gain_between a b → limits_between a b ≡ false
 no_gain_limits a b e = refuted (limits_between a b) (λ h. outside_gain (rise_of a b) (spread_of a b) e (limits_told (gained_of a b) (spread_of a b) h))
 
 -- the newest two of those that are kept
@@ -118,34 +118,37 @@ kept_most old same new = kept_is old same new (λ (s : Samples). how_many s ≤ 
 pub kept_newest : (old : Samples) (same : Bool) (new : Sample) → NewestIs new (kept_of old same new)
 kept_newest old same new = kept_is old same new (NewestIs new) refl (λ _ _ _. refl) (λ _ _ _ _ _. refl)
 
+-- the two ends that are found are these
+ends_are : (a b : Sample) (e : Ends) → Some (record { oldest = a; newest = b }) ≡ Some e → (a ≡ e.oldest) × (b ≡ e.newest)
+ends_are a b e q =
+    let k : ◌≡◌ {A = Ends} (record { oldest = a; newest = b }) e = cc in
+    (ap (λ (x : Ends). x.oldest) k, ap (λ (x : Ends). x.newest) k)
+
 -- the ends are the oldest and the newest of them
-pub ends_outer : (samples : Samples) (a b : Sample) → ends_of samples ≡ Both a b → OldestIs a samples × NewestIs b samples
+pub ends_outer : (samples : Samples) (e : Ends) → ends_of samples ≡ Some e → OldestIs e.oldest samples × NewestIs e.newest samples
 unfolding ends_of
-ends_outer Empty a b e = let clash : ◌≡◌ {A = ℕ} 0 1 = cc in absurd (omega arith)
-ends_outer (One c) a b e = let clash : ◌≡◌ {A = ℕ} 0 1 = cc in absurd (omega arith)
-ends_outer (Two c d) a b e = (cc, cc)
-ends_outer (Three c d f) a b e = (cc, cc)
+ends_outer Empty e q = absurd cc
+ends_outer (One c) e q = absurd cc
+ends_outer (Two c d) e q = ends_are c d e q
+ends_outer (Three c d f) e q = ends_are c f e q
 
 -- a line has no ends exactly where there are fewer than two samples
-pub few_ends : (samples : Samples) → ends_of samples ≡ Few → how_many samples < 2
+pub few_ends : (samples : Samples) → ends_of samples ≡ None → how_many samples < 2
 unfolding ends_of
 few_ends Empty q = lit< tt
 few_ends (One a) q = lit< tt
-few_ends (Two a b) q = let clash : ◌≡◌ {A = ℕ} 0 1 = cc in absurd (omega arith)
-few_ends (Three a b c) q = let clash : ◌≡◌ {A = ℕ} 0 1 = cc in absurd (omega arith)
+few_ends (Two a b) q = absurd cc
+few_ends (Three a b c) q = absurd cc
 
-pub ends_few : (samples : Samples) → how_many samples < 2 → ends_of samples ≡ Few
+pub ends_few : (samples : Samples) → how_many samples < 2 → ends_of samples ≡ None
 unfolding ends_of
 ends_few Empty h = refl
 ends_few (One a) h = refl
 ends_few (Two a b) h = absurd (omega (arith, h))
 ends_few (Three a b c) h = absurd (omega (arith, h))
 
-pub both_ends : (samples : Samples) (a b : Sample) → ends_of samples ≡ Both a b → how_many samples < 2 → ⊥
-both_ends samples a b q h = let clash : ◌≡◌ {A = ℕ} 0 1 = few_is (sym (ends_few samples h) ∙ q) in omega arith
-  where
-    few_is : Few ≡ Both a b → ◌≡◌ {A = ℕ} 0 1
-    few_is e = cc
+pub both_ends : (samples : Samples) (e : Ends) → ends_of samples ≡ Some e → how_many samples < 2 → ⊥
+both_ends samples e q h = let few = ends_few samples h in cc
 
 -- what is kept is lawful again
 pub kept_lawful : (old : Samples) (same : Bool) (new : Sample) → LawfulSamples old → LawfulSample new → LawfulSamples (kept_of old same new)
@@ -200,15 +203,9 @@ sample_error a h = error_bits a.error h.error
 pub between_small : (a b : Sample) → LawfulEnds a b → nat_abs (rate_between a b) ≤ steepest
 between_small a b w = rate_small (gained_of a b) (spread_of a b) w.limits
 
-pub ends_lawful : (samples : Samples) (a b : Sample) → LawfulSamples samples → ends_of samples ≡ Both a b → LawfulEnds a b
+pub ends_lawful : (samples : Samples) (e : Ends) → LawfulSamples samples → ends_of samples ≡ Some e → LawfulEnds e.oldest e.newest
 unfolding ends_of
-ends_lawful Empty a b w e = let z : ◌≡◌ {A = ℕ} 0 1 = cc in absurd (omega arith)
-ends_lawful (One c) a b w e = let z : ◌≡◌ {A = ℕ} 0 1 = cc in absurd (omega arith)
-ends_lawful (Two c d) a b w e =
-    let p : c ≡ a = cc in
-    let q : d ≡ b = cc in
-    rw (p, q) at w
-ends_lawful (Three c d f) a b w e =
-    let p : c ≡ a = cc in
-    let q : f ≡ b = cc in
-    rw (p, q) at w.ends
+ends_lawful Empty e w q = absurd cc
+ends_lawful (One c) e w q = absurd cc
+ends_lawful (Two c d) e w q = let k = ends_are c d e q in rw (k.0, k.1) at w
+ends_lawful (Three c d f) e w q = let k = ends_are c f e q in rw (k.0, k.1) at w.ends

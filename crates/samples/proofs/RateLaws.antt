@@ -4,6 +4,7 @@ use mathlib.Core.Bool.{Bool, true, false, cond}
 use Prim.Native.Nat.{ℕ, ◌+◌, ◌*◌, ◌^◌, ◌<◌, ◌≤◌}
 use native.Mathlib.Nat.{mul-le-mul_right}
 use native.Mathlib.Omega.{arith}
+use Rattle.std.proofs.Common.{Option, Some, None}
 use borrow.Author.Tests.{le-leb, leb-true}
 use lib.Dec.{leb}
 use lib.IntN.{ℤ, pos, nat_abs, ◌-ℤ◌, ◌*ℤ◌, *ℤ-zero}
@@ -11,9 +12,6 @@ use Rattle.numbers.specs.Whole.{floor_div, Nearest}
 use Rattle.times.specs.declared.LocalTime.{LocalTime}
 use Rattle.samples.specs.Rate.{shortest_spread, longest_spread, per_gain, parts, Limits, limits_hold, gain_of, rate_of, scaled_of, advance_of, rate_within, steepest, neighbour_rate_of}
 use Rattle.samples.specs.declared.Pair.{Pair}
-use Rattle.samples.specs.declared.Pair.TheVariants.{Unset, Set}
-use Rattle.samples.specs.declared.Gain.{Gain}
-use Rattle.samples.specs.declared.Gain.TheVariants.{Within, Outside}
 use Rattle.numbers.proofs.Ring.{nat_abs_mul, nat_abs_add}
 use Rattle.numbers.proofs.Floor.{floor_near, floor_small}
 use Rattle.numbers.proofs.Nearest.{nearest_is, nearest_one, nearest_small}
@@ -31,27 +29,27 @@ limits_told d s e =
 
 -- ---- the gain, within and outside the limits, and what it tells
 
-pub gain_within : (rise : ℤ) (s : ℕ) → Limits (rise -ℤ pos s) s → Within (rise -ℤ pos s) ≡ gain_of rise s
+pub gain_within : (rise : ℤ) (s : ℕ) → Limits (rise -ℤ pos s) s → Some (rise -ℤ pos s) ≡ gain_of rise s
 unfolding gain_of
 gain_within rise s k = rw (limits_true (rise -ℤ pos s) s k)
 
-pub gain_outside : (rise : ℤ) (s : ℕ) → (Limits (rise -ℤ pos s) s → ⊥) → Outside ≡ gain_of rise s
+pub gain_outside : (rise : ℤ) (s : ℕ) → (Limits (rise -ℤ pos s) s → ⊥) → None ≡ gain_of rise s
 unfolding gain_of
 gain_outside rise s f = rw (refuted (limits_hold (rise -ℤ pos s) s) (λ e. f (limits_told (rise -ℤ pos s) s e)))
 
 -- a gain within the limits is the rise less the spread, and the limits hold of it
-pub within_gain : (rise : ℤ) (s : ℕ) (d : ℤ) → Within d ≡ gain_of rise s → (d ≡ rise -ℤ pos s) × Limits d s
+pub within_gain : (rise : ℤ) (s : ℕ) (d : ℤ) → Some d ≡ gain_of rise s → (d ≡ rise -ℤ pos s) × Limits d s
 unfolding gain_of
 within_gain rise s d e = go (limits_hold (rise -ℤ pos s) s) refl e
   where
-    go : (t : Bool) → limits_hold (rise -ℤ pos s) s ≡ t → Within d ≡ cond t (Within (rise -ℤ pos s)) Outside → (d ≡ rise -ℤ pos s) × Limits d s
+    go : (t : Bool) → limits_hold (rise -ℤ pos s) s ≡ t → Some d ≡ cond t (Some (rise -ℤ pos s)) None → (d ≡ rise -ℤ pos s) × Limits d s
     go true k f = let g : d ≡ rise -ℤ pos s = cc in (g, rw g (limits_told (rise -ℤ pos s) s k))
     go false k f = let z : ◌≡◌ {A = ℕ} 0 1 = cc in absurd (omega arith)
 
 -- a gain outside the limits: they do not hold
-pub outside_gain : (rise : ℤ) (s : ℕ) → Outside ≡ gain_of rise s → Limits (rise -ℤ pos s) s → ⊥
+pub outside_gain : (rise : ℤ) (s : ℕ) → None ≡ gain_of rise s → Limits (rise -ℤ pos s) s → ⊥
 outside_gain rise s e k =
-    let f : Outside ≡ Within (rise -ℤ pos s) = e ∙ sym (gain_within rise s k) in
+    let f : None ≡ Some (rise -ℤ pos s) = e ∙ sym (gain_within rise s k) in
     let z : ◌≡◌ {A = ℕ} 0 1 = cc in
     omega arith
 
@@ -95,11 +93,11 @@ pub advance_small : (rate u : ℤ) → nat_abs rate ≤ steepest → nat_abs u �
 advance_small rate u hr hu = omega (arith, nat_abs_add u (scaled_of rate u), scaled_small rate u hr hu)
 
 -- and no rate of a gain, nor a neighbour's
-pub within_small : (gain : Gain) (rise : ℤ) (s : ℕ) → gain ≡ gain_of rise s → nat_abs (rate_within gain s) ≤ steepest
-within_small (Within d) rise s e = rate_small d s (within_gain rise s d e).1
-within_small Outside rise s e = omega arith
+pub within_small : (gain : Option ℤ) (rise : ℤ) (s : ℕ) → gain ≡ gain_of rise s → nat_abs (rate_within gain s) ≤ steepest
+within_small (Some d) rise s e = rate_small d s (within_gain rise s d e).1
+within_small None rise s e = omega arith
 
-pub neighbour_small : (pair : Pair) (local p : LocalTime) → nat_abs (neighbour_rate_of pair local p) ≤ steepest
+pub neighbour_small : (pair : Option Pair) (local p : LocalTime) → nat_abs (neighbour_rate_of pair local p) ≤ steepest
 unfolding neighbour_rate_of
-neighbour_small Unset local p = omega arith
-neighbour_small (Set local0 p0) local p = within_small _ _ _ refl
+neighbour_small None local p = omega arith
+neighbour_small (Some stored) local p = within_small _ _ _ refl

@@ -6,6 +6,7 @@ use mathlib.Core.Logic.{◌⊎◌, inl, inr, ⊎_elim}
 use Prim.Native.Nat.{ℕ, ◌+◌, ◌*◌, ◌^◌, ◌<◌, ◌≤◌}
 use native.Mathlib.Omega.{arith}
 use lib.IntN.{ℤ, pos, nat_abs, ◌+ℤ◌, ◌-ℤ◌}
+use Rattle.std.proofs.Common.{None}
 use Rattle.times.specs.Times.{circle, units}
 use Rattle.samples.specs.Rate.{shortest_spread, longest_spread, per_gain}
 use Rattle.samples.specs.Keep.{spread_of, rise_of, gained_of, beside_two, kept_of, ends_of}
@@ -13,7 +14,6 @@ use Rattle.samples.specs.Demands.{Alone, Farther}
 use Rattle.samples.specs.declared.Sample.{Sample}
 use Rattle.samples.specs.declared.Samples.{Samples}
 use Rattle.samples.specs.declared.Samples.TheVariants.{One, Two, Three}
-use Rattle.samples.specs.declared.Ends.TheVariants.{Few}
 use Rattle.times.proofs.TimeLaws.{on_and_on}
 use Rattle.numbers.proofs.Ring.{same, split, neg_pos, sub_add, sub_neg_is, nat_abs_add}
 use Rattle.samples.proofs.RateLaws.{limits_true}
@@ -87,5 +87,5 @@ either_alone old a b far onward =
 
 -- so one of the two leaves no line, and a Send on it is refused with 11
 pub either_few : (old : Samples) (a b : Sample) → Farther (2 ^ 38) old a → 2 ^ 38 < spread_of a b
-    → (ends_of (kept_of old true a) ≡ Few) ⊎ (ends_of (kept_of (kept_of old true a) true b) ≡ Few)
+    → (ends_of (kept_of old true a) ≡ None) ⊎ (ends_of (kept_of (kept_of old true a) true b) ≡ None)
 either_few old a b far onward = ⊎_elim (λ h. inl (ends_few _ (omega (arith, h)))) (λ h. inr (ends_few _ (omega (arith, h)))) (either_alone old a b far onward)

@@ -1,13 +1,11 @@
 -- Step 4, which samples are kept, and the two of them that a line is read off.
-use Rattle.std.specs.Prelude.{Bool, cond, ◌&&◌, ℕ, ◌^◌, ◌<◌, ℤ, pos, ◌-ℤ◌}
+use Rattle.std.specs.Prelude.{Bool, cond, ◌&&◌, ℕ, ◌^◌, ◌<◌, Option, Some, None, ℤ, pos, ◌-ℤ◌}
 use Rattle.times.specs.Times.{circle, since_of, units, InRange}
 use Rattle.samples.specs.Rate.{Limits, limits_hold, gain_of, rate_of}
 use Rattle.samples.specs.declared.Sample.{Sample}
 use Rattle.samples.specs.declared.Samples.{Samples}
 use Rattle.samples.specs.declared.Samples.TheVariants.{Empty, One, Two, Three}
 use Rattle.samples.specs.declared.Ends.{Ends}
-use Rattle.samples.specs.declared.Ends.TheVariants.{Few, Both}
-use Rattle.samples.specs.declared.Gain.{Gain}
 
 -- from a sample a to a later one b: S, the spread of local time; the spread of grand time over all 80 bits; d, what grand time gained
 abbrev pub spread_of : Sample → Sample → ℕ
@@ -20,7 +18,7 @@ abbrev pub gained_of : Sample → Sample → ℤ
 gained_of a b = rise_of a b -ℤ pos (spread_of a b)
 
 -- the gain between two samples, where the limits hold
-abbrev pub gain_between : Sample → Sample → Gain
+abbrev pub gain_between : Sample → Sample → Option ℤ
 gain_between a b = gain_of (rise_of a b) (spread_of a b)
 
 -- the rate of a clock from one sample to a later one
@@ -58,11 +56,11 @@ how_many (Two a b) = 2
 how_many (Three a b c) = 3
 
 -- too few samples to read a line off, or the oldest and the newest that are kept
-unfoldable pub ends_of : Samples → Ends
-ends_of Empty = Few
-ends_of (One a) = Few
-ends_of (Two a b) = Both a b
-ends_of (Three a b c) = Both a c
+unfoldable pub ends_of : Samples → Option Ends
+ends_of Empty = None
+ends_of (One a) = None
+ends_of (Two a b) = Some (record { oldest = a; newest = b })
+ends_of (Three a b c) = Some (record { oldest = a; newest = c })
 
 -- a sample's numbers: a grand time of 40 bits and 40 bits, a local time of 48, an errorTime of 32
 pub record LawfulSample (a : Sample) : Type 0 where

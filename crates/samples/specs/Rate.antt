@@ -1,12 +1,9 @@
 -- Step 1, the rate of one clock against another, and what a rate makes of a stretch of time.
-use Rattle.std.specs.Prelude.{Bool, cond, ◌&&◌, ℕ, ◌*◌, ◌^◌, ◌≤◌, leb, ℤ, pos, nat_abs, ◌+ℤ◌, ◌-ℤ◌, ◌*ℤ◌}
+use Rattle.std.specs.Prelude.{Bool, cond, ◌&&◌, ℕ, ◌*◌, ◌^◌, ◌≤◌, leb, Option, Some, None, ℤ, pos, nat_abs, ◌+ℤ◌, ◌-ℤ◌, ◌*ℤ◌}
 use Rattle.numbers.specs.Whole.{floor_div, nearest_div}
 use Rattle.times.specs.Times.{since_of}
 use Rattle.times.specs.declared.LocalTime.{LocalTime}
 use Rattle.samples.specs.declared.Pair.{Pair}
-use Rattle.samples.specs.declared.Pair.TheVariants.{Unset, Set}
-use Rattle.samples.specs.declared.Gain.{Gain}
-use Rattle.samples.specs.declared.Gain.TheVariants.{Within, Outside}
 
 -- the shortest and the longest spread over which a rate is taken, and the least spread for one unit of gain
 abbrev pub shortest_spread : ℕ
@@ -32,8 +29,8 @@ abbrev pub limits_hold : ℤ → ℕ → Bool
 limits_hold d s = leb shortest_spread s && leb s longest_spread && leb (nat_abs d * per_gain) s
 
 -- d, the rise of the other clock less the spread S of this one, where the limits hold
-unfoldable pub gain_of : ℤ → ℕ → Gain
-gain_of rise s = cond (limits_hold (rise -ℤ pos s) s) (Within (rise -ℤ pos s)) Outside
+unfoldable pub gain_of : ℤ → ℕ → Option ℤ
+gain_of rise s = cond (limits_hold (rise -ℤ pos s) s) (Some (rise -ℤ pos s)) None
 
 -- the nearest whole number to d × 2^35 / S, a half going up
 unfoldable pub rate_of : ℤ → ℕ → ℤ
@@ -48,15 +45,15 @@ abbrev pub advance_of : ℤ → ℤ → ℤ
 advance_of rate u = u +ℤ scaled_of rate u
 
 -- the rate of a gain over a spread S, and 0 where the limits do not hold
-abbrev pub rate_within : Gain → ℕ → ℤ
-rate_within (Within d) s = rate_of d s
-rate_within Outside s = pos 0
+abbrev pub rate_within : Option ℤ → ℕ → ℤ
+rate_within (Some d) s = rate_of d s
+rate_within None s = pos 0
 
 -- no rate within the limits is larger than this in size
 abbrev pub steepest : ℕ
 steepest = 8589935
 
--- the neighbour's rate from the stored pair (localTime, p) to the new one
-unfoldable pub neighbour_rate_of : Pair → LocalTime → LocalTime → ℤ
-neighbour_rate_of Unset local p = pos 0
-neighbour_rate_of (Set local0 p0) local p = rate_within (gain_of (pos (since_of p p0)) (since_of local local0)) (since_of local local0)
+-- the neighbour's rate from the stored pair to the new one: its localTime there, and the arrival p here
+unfoldable pub neighbour_rate_of : Option Pair → LocalTime → LocalTime → ℤ
+neighbour_rate_of None local p = pos 0
+neighbour_rate_of (Some pair) local p = rate_within (gain_of (pos (since_of p pair.here)) (since_of local pair.there)) (since_of local pair.there)

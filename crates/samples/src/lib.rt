@@ -20,23 +20,16 @@ pub enum Samples {
     Three(Sample, Sample, Sample),
 }
 
-// The oldest and the newest sample that are kept, or that there are too few to read a line off.
+// The oldest and the newest sample that are kept: a line is read off these two.
 #[derive(Clone, Copy)]
-pub enum Ends {
-    Few,
-    Both(Sample, Sample),
+pub struct Ends {
+    pub oldest: Sample,
+    pub newest: Sample,
 }
 
-// A neighbour's localTime and the arrival here that it belongs to.
+// A neighbour's localTime, and the arrival here that it belongs to.
 #[derive(Clone, Copy)]
-pub enum Pair {
-    Unset,
-    Set(LocalTime, LocalTime),
-}
-
-// By how much one clock gained on another, where the limits hold.
-#[derive(Clone, Copy)]
-pub enum Gain {
-    Within(i64),
-    Outside,
+pub struct Pair {
+    pub there: LocalTime,
+    pub here: LocalTime,
 }
