@@ -1,7 +1,8 @@
 -- The refusals that are found before any record is looked at.
-use Rattle.std.specs.Prelude.{Bool, ℕ, ◌-◌, ◌/◌, ◌%◌, ◌^◌, ltb, leb, eqb}
-use Rattle.refusals.specs.Refusals.{done, out_of_range, no_link, wrong_length, no_clock}
-use Rattle.refusals.specs.Chain.{unless}
+use Rattle.std.specs.Prelude.{Bool, ℕ, ◌-◌, ◌/◌, ◌%◌, ◌^◌, ltb, leb, eqb, Result, ⊤}
+use Rattle.refusals.specs.Answer.{granted, require}
+use Rattle.refusals.specs.declared.Refusal.{Refusal}
+use Rattle.refusals.specs.declared.Refusal.TheVariants.{OutOfRange, NoLink, WrongLength, NoClock}
 use Rattle.times.specs.Times.{circle, second}
 use Rattle.frame.specs.Frame.{frame_length}
 
@@ -14,28 +15,28 @@ abbrev pub has_link : ℕ → ℕ → Bool
 has_link links port = eqb (bit links (port - 1)) 1
 
 -- 2 for a port or a local time out of range, 3 for a port with no link, or the rest
-abbrev pub on_port_of : ℕ → ℕ → ℕ → ℕ → ℕ → ℕ
+abbrev pub on_port_of : ℕ → ℕ → ℕ → ℕ → Result ⊤ Refusal → Result ⊤ Refusal
 on_port_of n links port at rest =
-    unless (leb 1 port) out_of_range
-    (unless (leb port n) out_of_range
-    (unless (ltb at circle) out_of_range
-    (unless (has_link links port) no_link rest)))
+    require (leb 1 port) OutOfRange
+    (require (leb port n) OutOfRange
+    (require (ltb at circle) OutOfRange
+    (require (has_link links port) NoLink rest)))
 
 -- a call on a port at a local time
-unfoldable pub port_refusal : ℕ → ℕ → ℕ → ℕ → ℕ
-port_refusal n links port at = on_port_of n links port at done
+unfoldable pub port_refusal : ℕ → ℕ → ℕ → ℕ → Result ⊤ Refusal
+port_refusal n links port at = on_port_of n links port at granted
 
 -- a send: the same, and 4 for an output that is too short
-unfoldable pub send_refusal : ℕ → ℕ → ℕ → ℕ → ℕ → ℕ
-send_refusal n links port t room = on_port_of n links port t (unless (leb frame_length room) wrong_length done)
+unfoldable pub send_refusal : ℕ → ℕ → ℕ → ℕ → ℕ → Result ⊤ Refusal
+send_refusal n links port t room = on_port_of n links port t (require (leb frame_length room) WrongLength granted)
 
--- own clock: 2 for a time out of range, 10 on a station that is not capable, or 0
-unfoldable pub own_clock_refusal : Bool → ℕ → ℕ → ℕ → ℕ
+-- own clock: 2 for a time out of range, and 10 on a station that is not capable
+unfoldable pub own_clock_refusal : Bool → ℕ → ℕ → ℕ → Result ⊤ Refusal
 own_clock_refusal capable seconds fraction at =
-    unless (ltb seconds second) out_of_range
-    (unless (ltb fraction second) out_of_range
-    (unless (ltb at circle) out_of_range
-    (unless capable no_clock done)))
+    require (ltb seconds second) OutOfRange
+    (require (ltb fraction second) OutOfRange
+    (require (ltb at circle) OutOfRange
+    (require capable NoClock granted)))
 
 -- a mask with a bit beyond n ports
 unfoldable pub mask_beyond : ℕ → ℕ → Bool

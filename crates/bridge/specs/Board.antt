@@ -1,5 +1,5 @@
 -- Boards that compare in an order and grouping of their own: what each chooses, and what its calls make of that.
-use Rattle.std.specs.Prelude.{List, [], ◌∷◌, ℕ, zero, suc}
+use Rattle.std.specs.Prelude.{Option, List, [], ◌∷◌, ℕ, zero, suc}
 use Rattle.choice.specs.Choose.{candidate_of, own_candidate}
 use Rattle.choice.specs.Compare.{Comparison, outcome_of, ComparesEach}
 use Rattle.choice.specs.declared.Candidate.{Candidate}
@@ -10,7 +10,7 @@ use Rattle.bridge.specs.Demands.{Call, links, own_clock, receive, age, send, aft
 use Rattle.bridge.specs.declared.Bridge.{Bridge}
 
 -- the candidate under a number: the own clock's under 0, a port's under its own
-unfoldable pub candidate_under_of : Bridge → ℕ → Candidate
+unfoldable pub candidate_under_of : Bridge → ℕ → Option Candidate
 candidate_under_of b zero = own_candidate b.setup.capable b.setup.own
 candidate_under_of b (suc i) = candidate_of (suc i) (port_at b.ports i).announcement
 
@@ -28,7 +28,7 @@ abbrev pub GoesThrough : Comparison ℕ → Bridge → Type 0
 GoesThrough board b = ComparesEach (candidate_under_of b) (numbers_to most_ports) board
 
 -- what it chooses
-abbrev pub chosen_on : Comparison ℕ → Bridge → Candidate
+abbrev pub chosen_on : Comparison ℕ → Bridge → Option Candidate
 chosen_on board b = outcome_of (candidate_under_of b) board
 
 -- the state after a call, and after calls in a row

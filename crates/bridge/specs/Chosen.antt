@@ -1,5 +1,5 @@
 -- Chosen.
-use Rattle.std.specs.Prelude.{List, [], ◌∷◌, ℕ, suc}
+use Rattle.std.specs.Prelude.{Option, List, [], ◌∷◌, ℕ, suc}
 use Rattle.choice.specs.Least.{announced_rank_of, own_rank_of, least_of}
 use Rattle.choice.specs.declared.Candidate.{Candidate}
 use Rattle.port.specs.declared.Port.{Port}
@@ -7,7 +7,7 @@ use Rattle.bridge.specs.Table.{choice_of}
 use Rattle.bridge.specs.declared.Bridge.{Bridge}
 
 -- the best clock of the whole state, or none
-unfoldable pub chosen_of : Bridge → Candidate
+unfoldable pub chosen_of : Bridge → Option Candidate
 chosen_of b = choice_of b.setup.capable b.setup.own b.ports
 
 -- the ranks of the ports, the first of which has the number k

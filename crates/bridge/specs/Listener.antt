@@ -1,5 +1,6 @@
 -- C-17's cases: what Setup makes of a listener, its frames byte by byte, and what a bridge at the other end of the cable makes of them.
 use Rattle.std.specs.Prelude.{Bool, true, false, List, [], ◌∷◌, ◌++◌, ℕ, replicate}
+use Rattle.refusals.specs.Answer.{answer_number}
 use Rattle.refusals.specs.Literals.{Literal, literal}
 use Rattle.choice.specs.Choose.{shown_port, shown_hop}
 use Rattle.port.specs.declared.Profile.TheVariants.{Listener}
@@ -29,7 +30,7 @@ listening n capable back = record {
 }
 
 abbrev set_up : ℕ → Bool → ℕ → ℕ
-set_up n capable back = (setup_of (listening n capable back)).answer
+set_up n capable back = answer_number (setup_of (listening n capable back)).answer
 
 -- 1 but for one port, not capable, backTime 0; the default is another
 unfoldable pub listener_setups_of : List Literal
@@ -107,9 +108,9 @@ heard_thrice = (receive_of heard_twice 1 third 0x000400000000).next
 unfoldable pub listener_heard_of : List Literal
 listener_heard_of =
     -- none was heard before the first; the others are taken
-    literal (receive_of bridge 1 first 0).answer 8
-    ∷ literal (receive_of heard_once 1 second 0x000200000000).answer 0
-    ∷ literal (receive_of heard_twice 1 third 0x000400000000).answer 0
+    literal (answer_number (receive_of bridge 1 first 0).answer) 8
+    ∷ literal (answer_number (receive_of heard_once 1 second 0x000200000000).answer) 0
+    ∷ literal (answer_number (receive_of heard_twice 1 third 0x000400000000).answer) 0
     -- a clock of all FF that is heard is a candidate and not none: port 1, held hop 255; it is the first of the ranking, and there is no second
     ∷ literal (shown_port (chosen_of bridge)) 255
     ∷ literal (shown_port (chosen_of heard_twice)) 1
@@ -117,7 +118,7 @@ listener_heard_of =
     ∷ literal (shown_port (ranked_of heard_twice 0)) 1
     ∷ literal (shown_port (ranked_of heard_twice 1)) 255
     -- no clock, and then never two samples of it
-    ∷ literal (send_of bridge 1 0x000200000000 64).answer 10
-    ∷ literal (send_of heard_twice 1 0x000200000000 64).answer 11
-    ∷ literal (send_of heard_thrice 1 0x000400000000 64).answer 11
+    ∷ literal (answer_number (send_of bridge 1 0x000200000000 64).answer) 10
+    ∷ literal (answer_number (send_of heard_twice 1 0x000200000000 64).answer) 11
+    ∷ literal (answer_number (send_of heard_thrice 1 0x000400000000 64).answer) 11
     ∷ []

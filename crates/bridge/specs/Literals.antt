@@ -1,5 +1,6 @@
 -- Document 01's literals, one table: those of the refusals, of the frame and of the records, and here those of Setup and of the calls' arguments.
 use Rattle.std.specs.Prelude.{true, false, List, [], ◌∷◌, ◌++◌, ℕ, ◌+◌, ◌-◌, ◌^◌, get_or, replicate}
+use Rattle.refusals.specs.Answer.{answer_number}
 use Rattle.refusals.specs.Literals.{Literal, literal, tested, numbers}
 use Rattle.delay.specs.declared.DelaySetting.TheVariants.{Fixed}
 use Rattle.port.specs.declared.Profile.TheVariants.{Full}
@@ -11,7 +12,7 @@ use Rattle.bridge.specs.Table.{port_at}
 use Rattle.bridge.specs.Arguments.{port_refusal, send_refusal, own_clock_refusal, mask_beyond}
 use Rattle.bridge.specs.Fits.{measured_setting, first_versions, no_mac, no_precedence, plain_setup}
 use Rattle.bridge.specs.Setup.{default_timeout, default_back, no_bridge, setup_of}
-use Rattle.bridge.specs.Links.{links_of, link_no}
+use Rattle.bridge.specs.Links.{links_of}
 use Rattle.bridge.specs.Age.{age_of}
 use Rattle.bridge.specs.Drift.{drift_at}
 
@@ -19,11 +20,11 @@ use Rattle.bridge.specs.Drift.{drift_at}
 
 -- what Setup answers to so many ports, a timeout and a backTime
 abbrev plain : ℕ → ℕ → ℕ → ℕ
-plain n timeout back = (setup_of (plain_setup n timeout back)).answer
+plain n timeout back = answer_number (setup_of (plain_setup n timeout back)).answer
 
 -- and to so many ports with these settings and versions
 abbrev with : ℕ → List Setting → List ℕ → ℕ
-with n settings versions = (setup_of (record {
+with n settings versions = answer_number (setup_of (record {
   n = n;
   sender = record { profile = Full; mac = no_mac; back = 0 };
   own = no_precedence;
@@ -85,30 +86,30 @@ arguments =
     literal (tested (mask_beyond 8 255)) 0
     ∷ literal (tested (mask_beyond 2 3)) 0
     ∷ literal (tested (mask_beyond 2 4)) 1
-    ∷ literal (link_no (links_of no_bridge 1).answer) 2
+    ∷ literal (answer_number (links_of no_bridge 1).answer) 2
     -- a port not 1..N, a local time at or above 2^48, no link; bit 0 is for port 1
-    ∷ literal (port_refusal 8 255 0 0) 2
-    ∷ literal (port_refusal 8 255 1 0) 0
-    ∷ literal (port_refusal 8 255 8 0) 0
-    ∷ literal (port_refusal 7 255 8 0) 2
-    ∷ literal (port_refusal 8 255 8 (2 ^ 48 - 1)) 0
-    ∷ literal (port_refusal 8 255 8 (2 ^ 48)) 2
-    ∷ literal (port_refusal 8 1 1 0) 0
-    ∷ literal (port_refusal 8 254 1 0) 3
-    ∷ literal (port_refusal 8 128 8 0) 0
-    ∷ literal (port_refusal 8 127 8 0) 3
+    ∷ literal (answer_number (port_refusal 8 255 0 0)) 2
+    ∷ literal (answer_number (port_refusal 8 255 1 0)) 0
+    ∷ literal (answer_number (port_refusal 8 255 8 0)) 0
+    ∷ literal (answer_number (port_refusal 7 255 8 0)) 2
+    ∷ literal (answer_number (port_refusal 8 255 8 (2 ^ 48 - 1))) 0
+    ∷ literal (answer_number (port_refusal 8 255 8 (2 ^ 48))) 2
+    ∷ literal (answer_number (port_refusal 8 1 1 0)) 0
+    ∷ literal (answer_number (port_refusal 8 254 1 0)) 3
+    ∷ literal (answer_number (port_refusal 8 128 8 0)) 0
+    ∷ literal (answer_number (port_refusal 8 127 8 0)) 3
     -- an output of 64 bytes
-    ∷ literal (send_refusal 8 255 8 0 63) 4
-    ∷ literal (send_refusal 8 255 8 0 64) 0
+    ∷ literal (answer_number (send_refusal 8 255 8 0 63)) 4
+    ∷ literal (answer_number (send_refusal 8 255 8 0 64)) 0
     -- own clock: seconds and fraction below 2^40, now below 2^48, capable
-    ∷ literal (own_clock_refusal true (2 ^ 40 - 1) (2 ^ 40 - 1) (2 ^ 48 - 1)) 0
-    ∷ literal (own_clock_refusal true (2 ^ 40) 0 0) 2
-    ∷ literal (own_clock_refusal true 0 (2 ^ 40) 0) 2
-    ∷ literal (own_clock_refusal true 0 0 (2 ^ 48)) 2
-    ∷ literal (own_clock_refusal false 0 0 0) 10
+    ∷ literal (answer_number (own_clock_refusal true (2 ^ 40 - 1) (2 ^ 40 - 1) (2 ^ 48 - 1))) 0
+    ∷ literal (answer_number (own_clock_refusal true (2 ^ 40) 0 0)) 2
+    ∷ literal (answer_number (own_clock_refusal true 0 (2 ^ 40) 0)) 2
+    ∷ literal (answer_number (own_clock_refusal true 0 0 (2 ^ 48))) 2
+    ∷ literal (answer_number (own_clock_refusal false 0 0 0)) 10
     -- Age: a local time at or above 2^48
-    ∷ literal (age_of no_bridge (2 ^ 48 - 1)).answer 0
-    ∷ literal (age_of no_bridge (2 ^ 48)).answer 2
+    ∷ literal (answer_number (age_of no_bridge (2 ^ 48 - 1)).answer) 0
+    ∷ literal (answer_number (age_of no_bridge (2 ^ 48)).answer) 2
     -- Drift: a port above N, here 0
     ∷ literal (drift_no (drift_at no_bridge 0)) 0
     ∷ literal (drift_no (drift_at no_bridge 1)) 2

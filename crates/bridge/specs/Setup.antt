@@ -1,6 +1,7 @@
 -- Setup.
-use Rattle.std.specs.Prelude.{cond, ℕ, ◌^◌, replicate}
-use Rattle.refusals.specs.Refusals.{done, bad_setup}
+use Rattle.std.specs.Prelude.{cond, ℕ, ◌^◌, replicate, Err, ⊤}
+use Rattle.refusals.specs.Answer.{granted}
+use Rattle.refusals.specs.declared.Refusal.TheVariants.{BadSetup}
 use Rattle.port.specs.Record.{empty_port, empty_clock}
 use Rattle.bridge.specs.Table.{most_ports}
 use Rattle.bridge.specs.Fits.{setup_fits, no_setup}
@@ -24,5 +25,5 @@ fresh_of s = state_of s 0 empty_clock (replicate most_ports empty_port)
 abbrev pub no_bridge : Bridge
 no_bridge = fresh_of no_setup
 
-unfoldable pub setup_of : Setup → Done
-setup_of s = cond (setup_fits s) (answers done (fresh_of s)) (answers bad_setup no_bridge)
+unfoldable pub setup_of : Setup → Done ⊤
+setup_of s = cond (setup_fits s) (answers granted (fresh_of s)) (answers (Err BadSetup) no_bridge)

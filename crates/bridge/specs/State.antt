@@ -1,22 +1,19 @@
 -- The state: what holds of every state that Setup or a call hands back, and a state with one part changed.
-use Rattle.std.specs.Prelude.{◌≡◌, true, false, cond, List, ℕ, ◌^◌, ◌<◌, ◌≤◌, eqb, length, get_or, take, set}
-use Rattle.refusals.specs.Refusals.{done}
+use Rattle.std.specs.Prelude.{◌≡◌, true, false, List, ℕ, ◌^◌, ◌<◌, ◌≤◌, length, get_or, take, set, Result, Ok, Err, ⊤}
+use Rattle.refusals.specs.declared.Refusal.{Refusal}
 use Rattle.timeline.specs.Sent.{longest_elapsed}
 use Rattle.choice.specs.Rank.{PrecedenceFits}
 use Rattle.port.specs.Lawful.{LawfulPort, LawfulClock, LawfulMac}
 use Rattle.port.specs.declared.Profile.TheVariants.{Full, Listener}
 use Rattle.port.specs.declared.Port.{Port}
 use Rattle.port.specs.declared.OwnClock.{OwnClock}
-use Rattle.port.specs.declared.PortDone.{PortDone}
-use Rattle.port.specs.declared.ClockDone.{ClockDone}
+use Rattle.port.specs.declared.Outcome.{Outcome}
 use Rattle.bridge.specs.Table.{port_at, most_ports}
 use Rattle.bridge.specs.Fits.{greatest_timeout, delays_fit_of, versions_fit_of, listener_ports, listener_back}
 use Rattle.bridge.specs.Ranking.{kept_ranking}
 use Rattle.bridge.specs.declared.Setup.{Setup}
 use Rattle.bridge.specs.declared.Bridge.{Bridge}
 use Rattle.bridge.specs.declared.Done.{Done}
-use Rattle.bridge.specs.declared.Linked.{Linked}
-use Rattle.bridge.specs.declared.LinkCount.{LinkCount}
 
 -- what the types of a setup say, whatever Setup makes of it: eight settings and eight versions, an address of six bytes, and an own precedence whose parts have their bits
 pub record TypedSetup (s : Setup) : Type 0 where
@@ -73,25 +70,27 @@ abbrev pub with_port : Bridge → ℕ → Port → Bridge
 with_port b i port = with_ports b (set b.ports i port)
 
 abbrev pub with_clock : Bridge → OwnClock → Bridge
-with_clock b clock = record { setup = b.setup; links = b.links; ranking = b.ranking; clock = clock; ports = b.ports }
+with_clock b clock = record b { clock = clock }
 
 abbrev pub with_links : Bridge → ℕ → List Port → Bridge
 with_links b mask ports = state_of b.setup mask b.clock ports
 
 -- what a call answers, and the next state
-abbrev pub answers : ℕ → Bridge → Done
-answers k b = record { answer = k; next = b }
-
-abbrev pub linked : LinkCount → Bridge → Linked
-linked k b = record { answer = k; next = b }
+abbrev pub answers : {A : Type 0} → Result A Refusal → Bridge → Done A
+answers answer b = record { answer = answer; next = b }
 
 -- what a port or the own clock answers, with its record stored
-abbrev pub stores_port : Bridge → ℕ → PortDone → Done
-stores_port b i d = answers d.answer (with_port b i d.port)
+abbrev pub stores_port : Bridge → ℕ → Outcome Port → Done ⊤
+stores_port b i d = answers d.answer (with_port b i d.after)
 
-abbrev pub stores_clock : Bridge → ClockDone → Done
-stores_clock b d = answers d.answer (with_clock b d.clock)
+abbrev pub stores_clock : Bridge → Outcome OwnClock → Done ⊤
+stores_clock b d = answers d.answer (with_clock b d.after)
 
--- a refusal found before any record is looked at stores nothing; where it is 0, the call goes on
-abbrev pub refused_or : Bridge → ℕ → Done → Done
-refused_or b k d = cond (eqb k done) d (answers k b)
+-- the first where there is no refusal, else the second
+abbrev pub by_refusal : {A : Type 0} → Result ⊤ Refusal → A → A → A
+by_refusal (Ok _) goes_on stops = goes_on
+by_refusal (Err refusal) goes_on stops = stops
+
+-- a refusal found before any record is looked at stores nothing; where there is none, the call goes on
+abbrev pub refused_or : Bridge → Result ⊤ Refusal → Done ⊤ → Done ⊤
+refused_or b answer d = by_refusal answer d (answers answer b)

@@ -4,11 +4,15 @@
 ghost use Rattle.std.specs.Prelude.{◌≡◌};
 ghost use Rattle.bridge.specs.Setup.{default_timeout, default_back};
 
-use choice::Precedence;
+use choice::{Precedence, Rank};
 use port::{OwnClock, Port, Sender, Setting};
+use refusals::Refusal;
 
 // How many records there are.
 pub const PORTS: usize = 8;
+
+// How many places the ranking has: one for each port, and one for the own clock.
+pub const PLACES: usize = 9;
 
 // Half a second, and 15 ms.
 const HALF_A_SECOND: u64 = 0x80_0000_0000;
@@ -23,9 +27,9 @@ pub struct Setup {
     pub own: Precedence,
     pub capable: bool,
     pub n: u8,
-    pub versions: [u8; 8],
+    pub versions: [u8; PORTS],
     pub timeout: u64,
-    pub settings: [Setting; 8],
+    pub settings: [Setting; PORTS],
 }
 
 // The whole state: what Setup was given, the links, the ranking of all candidates, the own clock's record and the ports' records.
@@ -33,30 +37,16 @@ pub struct Setup {
 pub struct Bridge {
     pub setup: Setup,
     pub links: u8,
-    pub ranking: [u64; 18],
+    pub ranking: [Rank; PLACES],
     pub clock: OwnClock,
-    pub ports: [Port; 8],
+    pub ports: [Port; PORTS],
 }
 
-// What most calls answer, 0 for done, and the next state.
+// What a call answers, and the next state: most answers carry nothing, and that of Links how many ports have a link.
 #[derive(Clone, Copy)]
-pub struct Done {
+pub struct Done<A> {
     pub next: Bridge,
-    pub answer: u8,
-}
-
-// What Links answers: how many ports have a link, or a refusal.
-#[derive(Clone, Copy)]
-pub enum LinkCount {
-    Refused,
-    Up(u8),
-}
-
-// Links' answer and the next state.
-#[derive(Clone, Copy)]
-pub struct Linked {
-    pub next: Bridge,
-    pub answer: LinkCount,
+    pub answer: Result<A, Refusal>,
 }
 
 // The default timeout.
