@@ -1,39 +1,29 @@
 -- Timestamps and scales at the edges: tables of cases that we chose, each with what the request's rules give.
-use Rattle.std.specs.Prelude.{◌≡◌, List, [], ◌∷◌, map, ℕ, ◌-◌, ◌^◌, ℤ, pos, negsuc}
+use Rattle.std.specs.Prelude.{List, [], ◌∷◌, ℕ, ◌-◌, ◌^◌, ℤ, pos, negsuc, Result, Ok, Err}
+use Rattle.refusals.specs.Edge.{Edge}
+use Rattle.refusals.specs.declared.Refusal.{Refusal}
+use Rattle.refusals.specs.declared.Refusal.TheVariants.{OutOfRange, BeyondRange}
+use Rattle.times.specs.declared.GrandTime.{GrandTime}
 use Rattle.ptp.specs.Timestamp.{export_of, import_of}
 use Rattle.ptp.specs.Scale.{gps_of, utc_of, ntp_of}
 use Rattle.ptp.specs.declared.PtpSecond.{PtpSecond}
-use Rattle.ptp.specs.declared.Exported.{Exported}
-use Rattle.ptp.specs.declared.Exported.TheVariants as Exports
-use Rattle.ptp.specs.declared.Imported.{Imported}
-use Rattle.ptp.specs.declared.Imported.TheVariants as Imports
-use Rattle.ptp.specs.declared.ToGps.{ToGps}
-use Rattle.ptp.specs.declared.ToGps.TheVariants as Gps
-use Rattle.ptp.specs.declared.ToUtc.{ToUtc}
-use Rattle.ptp.specs.declared.ToUtc.TheVariants as Utc
-use Rattle.ptp.specs.declared.ToNtp.{ToNtp}
-use Rattle.ptp.specs.declared.ToNtp.TheVariants as Ntp
-
--- what the definitions give, and what the request's rule does
-pub record Edge (A : Type 0) : Type 0 where
-  pub got : A
-  pub says : A
-
-abbrev pub Holds : {A : Type 0} → List (Edge A) → Type 0
-Holds {A} edges = map (λ (e : Edge A). e.got) edges ≡ map (λ (e : Edge A). e.says) edges
+use Rattle.ptp.specs.declared.PtpTime.{PtpTime}
+use Rattle.ptp.specs.declared.GpsSecond.{GpsSecond}
+use Rattle.ptp.specs.declared.UtcSecond.{UtcSecond}
+use Rattle.ptp.specs.declared.NtpSecond.{NtpSecond}
 
 -- ---- Export: a second and a fraction; the nanosecond
 
-abbrev exported : ℕ → ℕ → ℕ → Edge Exported
+abbrev exported : ℕ → ℕ → ℕ → Edge (Result PtpTime Refusal)
 exported second fraction nanosecond = record {
   got = export_of (record { 0 = second; 1 = fraction });
-  says = Exports.At (record { 0 = record { 0 = second }; 1 = nanosecond });
+  says = Ok (record { 0 = record { 0 = second }; 1 = nanosecond });
 }
 
-abbrev unexported : ℕ → ℕ → Edge Exported
-unexported second fraction = record { got = export_of (record { 0 = second; 1 = fraction }); says = Exports.Refused 2 }
+abbrev unexported : ℕ → ℕ → Edge (Result PtpTime Refusal)
+unexported second fraction = record { got = export_of (record { 0 = second; 1 = fraction }); says = Err OutOfRange }
 
-unfoldable pub exports : List (Edge Exported)
+unfoldable pub exports : List (Edge (Result PtpTime Refusal))
 exports =
     exported 0 0 0
     -- the first nanosecond ends after 1,099.51 U
@@ -48,16 +38,16 @@ exports =
 
 -- ---- Import: a second and a nanosecond; the fraction
 
-abbrev imported : ℕ → ℕ → ℕ → Edge Imported
+abbrev imported : ℕ → ℕ → ℕ → Edge (Result GrandTime Refusal)
 imported second nanosecond fraction = record {
   got = import_of (record { 0 = record { 0 = second }; 1 = nanosecond });
-  says = Imports.At (record { 0 = second; 1 = fraction });
+  says = Ok (record { 0 = second; 1 = fraction });
 }
 
-abbrev unimported : ℕ → ℕ → Edge Imported
-unimported second nanosecond = record { got = import_of (record { 0 = record { 0 = second }; 1 = nanosecond }); says = Imports.Refused 2 }
+abbrev unimported : ℕ → ℕ → Edge (Result GrandTime Refusal)
+unimported second nanosecond = record { got = import_of (record { 0 = record { 0 = second }; 1 = nanosecond }); says = Err OutOfRange }
 
-unfoldable pub imports : List (Edge Imported)
+unfoldable pub imports : List (Edge (Result GrandTime Refusal))
 imports =
     imported 0 0 0
     ∷ imported 0 1 1100
@@ -73,16 +63,16 @@ imports =
 abbrev second : ℕ → PtpSecond
 second n = record { 0 = n }
 
-abbrev gps : ℕ → ToGps → Edge ToGps
+abbrev gps : ℕ → Result GpsSecond Refusal → Edge (Result GpsSecond Refusal)
 gps n says = record { got = gps_of (second n); says = says }
 
-unfoldable pub gps_edges : List (Edge ToGps)
+unfoldable pub gps_edges : List (Edge (Result GpsSecond Refusal))
 gps_edges =
-    gps 0 (Gps.Refused 13)
-    ∷ gps 315964818 (Gps.Refused 13)
-    ∷ gps 315964819 (Gps.Second (record { 0 = 0 }))
-    ∷ gps (2 ^ 48 - 1) (Gps.Second (record { 0 = 2 ^ 48 - 315964820 }))
-    ∷ gps (2 ^ 48) (Gps.Refused 2)
+    gps 0 (Err BeyondRange)
+    ∷ gps 315964818 (Err BeyondRange)
+    ∷ gps 315964819 (Ok (record { 0 = 0 }))
+    ∷ gps (2 ^ 48 - 1) (Ok (record { 0 = 2 ^ 48 - 315964820 }))
+    ∷ gps (2 ^ 48) (Err OutOfRange)
     ∷ []
 
 -- leap seconds of today, the least and the most
@@ -95,38 +85,38 @@ least_leap = negsuc 32767
 abbrev most_leap : ℤ
 most_leap = pos 32767
 
-abbrev utc : ℕ → ℤ → ToUtc → Edge ToUtc
+abbrev utc : ℕ → ℤ → Result UtcSecond Refusal → Edge (Result UtcSecond Refusal)
 utc n leapSeconds says = record { got = utc_of (second n) leapSeconds; says = says }
 
-unfoldable pub utc_edges : List (Edge ToUtc)
+unfoldable pub utc_edges : List (Edge (Result UtcSecond Refusal))
 utc_edges =
-    utc 36 leap (Utc.Refused 13)
-    ∷ utc 37 leap (Utc.Second (record { 0 = 0 }))
-    ∷ utc (2 ^ 48 - 1) leap (Utc.Second (record { 0 = 2 ^ 48 - 38 }))
-    ∷ utc (2 ^ 48) leap (Utc.Refused 2)
-    ∷ utc 0 least_leap (Utc.Second (record { 0 = 32768 }))
-    ∷ utc (2 ^ 48 - 32769) least_leap (Utc.Second (record { 0 = 2 ^ 48 - 1 }))
-    ∷ utc (2 ^ 48 - 32768) least_leap (Utc.Refused 13)
-    ∷ utc (2 ^ 48) least_leap (Utc.Refused 2)
-    ∷ utc 32766 most_leap (Utc.Refused 13)
-    ∷ utc 32767 most_leap (Utc.Second (record { 0 = 0 }))
-    ∷ utc (2 ^ 48 - 1) most_leap (Utc.Second (record { 0 = 2 ^ 48 - 32768 }))
-    ∷ utc (2 ^ 48) most_leap (Utc.Refused 2)
+    utc 36 leap (Err BeyondRange)
+    ∷ utc 37 leap (Ok (record { 0 = 0 }))
+    ∷ utc (2 ^ 48 - 1) leap (Ok (record { 0 = 2 ^ 48 - 38 }))
+    ∷ utc (2 ^ 48) leap (Err OutOfRange)
+    ∷ utc 0 least_leap (Ok (record { 0 = 32768 }))
+    ∷ utc (2 ^ 48 - 32769) least_leap (Ok (record { 0 = 2 ^ 48 - 1 }))
+    ∷ utc (2 ^ 48 - 32768) least_leap (Err BeyondRange)
+    ∷ utc (2 ^ 48) least_leap (Err OutOfRange)
+    ∷ utc 32766 most_leap (Err BeyondRange)
+    ∷ utc 32767 most_leap (Ok (record { 0 = 0 }))
+    ∷ utc (2 ^ 48 - 1) most_leap (Ok (record { 0 = 2 ^ 48 - 32768 }))
+    ∷ utc (2 ^ 48) most_leap (Err OutOfRange)
     ∷ []
 
-abbrev ntp : ℕ → ℤ → ToNtp → Edge ToNtp
+abbrev ntp : ℕ → ℤ → Result NtpSecond Refusal → Edge (Result NtpSecond Refusal)
 ntp n leapSeconds says = record { got = ntp_of (second n) leapSeconds; says = says }
 
-unfoldable pub ntp_edges : List (Edge ToNtp)
+unfoldable pub ntp_edges : List (Edge (Result NtpSecond Refusal))
 ntp_edges =
-    ntp 0 leap (Ntp.Second (record { 0 = 2208988763 }))
-    ∷ ntp (2 ^ 48 - 2208988764) leap (Ntp.Second (record { 0 = 2 ^ 48 - 1 }))
-    ∷ ntp (2 ^ 48 - 2208988763) leap (Ntp.Refused 13)
-    ∷ ntp (2 ^ 48) leap (Ntp.Refused 2)
-    ∷ ntp 0 least_leap (Ntp.Second (record { 0 = 2209021568 }))
-    ∷ ntp (2 ^ 48 - 2209021569) least_leap (Ntp.Second (record { 0 = 2 ^ 48 - 1 }))
-    ∷ ntp (2 ^ 48 - 2209021568) least_leap (Ntp.Refused 13)
-    ∷ ntp 0 most_leap (Ntp.Second (record { 0 = 2208956033 }))
-    ∷ ntp (2 ^ 48 - 2208956034) most_leap (Ntp.Second (record { 0 = 2 ^ 48 - 1 }))
-    ∷ ntp (2 ^ 48 - 2208956033) most_leap (Ntp.Refused 13)
+    ntp 0 leap (Ok (record { 0 = 2208988763 }))
+    ∷ ntp (2 ^ 48 - 2208988764) leap (Ok (record { 0 = 2 ^ 48 - 1 }))
+    ∷ ntp (2 ^ 48 - 2208988763) leap (Err BeyondRange)
+    ∷ ntp (2 ^ 48) leap (Err OutOfRange)
+    ∷ ntp 0 least_leap (Ok (record { 0 = 2209021568 }))
+    ∷ ntp (2 ^ 48 - 2209021569) least_leap (Ok (record { 0 = 2 ^ 48 - 1 }))
+    ∷ ntp (2 ^ 48 - 2209021568) least_leap (Err BeyondRange)
+    ∷ ntp 0 most_leap (Ok (record { 0 = 2208956033 }))
+    ∷ ntp (2 ^ 48 - 2208956034) most_leap (Ok (record { 0 = 2 ^ 48 - 1 }))
+    ∷ ntp (2 ^ 48 - 2208956033) most_leap (Err BeyondRange)
     ∷ []

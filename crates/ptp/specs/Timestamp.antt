@@ -1,15 +1,13 @@
 -- Timestamps of a PTP analyser: the PTP time of a grand time, and the grand time of a PTP time.
-use Rattle.std.specs.Prelude.{cond, ◌&&◌, ℕ, ◌+◌, ◌-◌, ◌*◌, ◌/◌, ◌^◌, ltb}
-use Rattle.std.proofs.Math.Option.{Option, none, some}
+use Rattle.std.specs.Prelude.{cond, ◌&&◌, ℕ, ◌^◌, ltb, Result, Ok, Err}
 use Rattle.refusals.specs.Refusals.{done, out_of_range}
 use Rattle.refusals.specs.Chain.{unless}
+use Rattle.refusals.specs.declared.Refusal.{Refusal}
+use Rattle.refusals.specs.declared.Refusal.TheVariants.{OutOfRange}
 use Rattle.times.specs.Times.{second}
+use Rattle.times.specs.Parts.{part_of, least_of}
 use Rattle.times.specs.declared.GrandTime.{GrandTime}
 use Rattle.ptp.specs.declared.PtpTime.{PtpTime}
-use Rattle.ptp.specs.declared.Exported.{Exported}
-use Rattle.ptp.specs.declared.Exported.TheVariants as Exports
-use Rattle.ptp.specs.declared.Imported.{Imported}
-use Rattle.ptp.specs.declared.Imported.TheVariants as Imports
 
 -- the nanoseconds of a second
 abbrev pub billion : ℕ
@@ -18,16 +16,16 @@ billion = 10 ^ 9
 -- ---- outward
 
 -- the nanosecond of a fraction: floor(fraction × 10^9 / 2^40)
-unfoldable pub nanosecond_of : ℕ → ℕ
-nanosecond_of fraction = fraction * billion / second
+abbrev pub nanosecond_of : ℕ → ℕ
+nanosecond_of fraction = part_of billion second fraction
 
 -- the seconds as they are
 abbrev pub ptp_time_of : GrandTime → PtpTime
 ptp_time_of g = record { 0 = record { 0 = g.0 }; 1 = nanosecond_of g.1 }
 
 -- 2 for seconds or a fraction out of range
-unfoldable pub export_of : GrandTime → Exported
-export_of g = cond (ltb g.0 second && ltb g.1 second) (Exports.At (ptp_time_of g)) (Exports.Refused out_of_range)
+unfoldable pub export_of : GrandTime → Result PtpTime Refusal
+export_of g = cond (ltb g.0 second && ltb g.1 second) (Ok (ptp_time_of g)) (Err OutOfRange)
 
 -- the number of the refusal, by the grand time: 2 for seconds or a fraction out of range, or 0
 abbrev pub export_refusal : GrandTime → ℕ
@@ -36,34 +34,16 @@ export_refusal g = unless (ltb g.0 second) out_of_range (unless (ltb g.1 second)
 -- ---- inward
 
 -- the least fraction whose nanosecond this is: nanosecond × 2^40 / 10^9, rounded up; `fraction_least` says that it is the least
-unfoldable pub fraction_of : ℕ → ℕ
-fraction_of nanosecond = (nanosecond * second + (billion - 1)) / billion
+abbrev pub fraction_of : ℕ → ℕ
+fraction_of nanosecond = least_of billion second nanosecond
 
 abbrev pub grand_time_of : PtpTime → GrandTime
 grand_time_of t = record { 0 = t.0.0; 1 = fraction_of t.1 }
 
 -- 2 for seconds that grand time has not, or for a nanosecond that a second has not
-unfoldable pub import_of : PtpTime → Imported
-import_of t = cond (ltb t.0.0 second && ltb t.1 billion) (Imports.At (grand_time_of t)) (Imports.Refused out_of_range)
+unfoldable pub import_of : PtpTime → Result GrandTime Refusal
+import_of t = cond (ltb t.0.0 second && ltb t.1 billion) (Ok (grand_time_of t)) (Err OutOfRange)
 
 -- the number of the refusal, by the PTP time: 2 for seconds or a nanosecond out of range, or 0
 abbrev pub import_refusal : PtpTime → ℕ
 import_refusal t = unless (ltb t.0.0 second) out_of_range (unless (ltb t.1 billion) out_of_range done)
-
--- ---- the number of an answer, and the time that it carries
-
-abbrev pub export_no : Exported → ℕ
-export_no (Exports.At t) = done
-export_no (Exports.Refused k) = k
-
-abbrev pub export_time : Exported → Option PtpTime
-export_time (Exports.At t) = some t
-export_time (Exports.Refused k) = none
-
-abbrev pub import_no : Imported → ℕ
-import_no (Imports.At g) = done
-import_no (Imports.Refused k) = k
-
-abbrev pub import_time : Imported → Option GrandTime
-import_time (Imports.At g) = some g
-import_time (Imports.Refused k) = none

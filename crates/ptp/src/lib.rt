@@ -1,8 +1,6 @@
 // Times for a PTP analyser: the IEEE 1588 timestamp of a grand time, the grand time of a timestamp, and PTP seconds on other scales. The types, definitions and theorems stand here; the calls' code is above.
 #![tactic(auto)]
 
-use times::GrandTime;
-
 // A second of the PTP scale, 0 to 2^48 - 1.
 #[derive(Clone, Copy)]
 pub struct PtpSecond(pub u64);
@@ -10,20 +8,6 @@ pub struct PtpSecond(pub u64);
 // A PTP time: its second, and the nanoseconds since that second began, below 10^9.
 #[derive(Clone, Copy)]
 pub struct PtpTime(pub PtpSecond, pub u64);
-
-// The PTP time of a grand time, or a refusal.
-#[derive(Clone, Copy)]
-pub enum Exported {
-    At(PtpTime),
-    Refused(u8),
-}
-
-// The grand time of a PTP time, or a refusal.
-#[derive(Clone, Copy)]
-pub enum Imported {
-    At(GrandTime),
-    Refused(u8),
-}
 
 // A second of the GPS scale, 0 to 2^48 - 1.
 #[derive(Clone, Copy)]
@@ -36,31 +20,3 @@ pub struct UtcSecond(pub u64);
 // A second of the NTP scale, 0 to 2^48 - 1.
 #[derive(Clone, Copy)]
 pub struct NtpSecond(pub u64);
-
-// A PTP second on the GPS scale, or a refusal.
-#[derive(Clone, Copy)]
-pub enum ToGps {
-    Second(GpsSecond),
-    Refused(u8),
-}
-
-// A PTP second on the UTC scale, or a refusal.
-#[derive(Clone, Copy)]
-pub enum ToUtc {
-    Second(UtcSecond),
-    Refused(u8),
-}
-
-// A PTP second on the NTP scale, or a refusal.
-#[derive(Clone, Copy)]
-pub enum ToNtp {
-    Second(NtpSecond),
-    Refused(u8),
-}
-
-// A second of some scale as a number, or a refusal.
-#[derive(Clone, Copy)]
-pub enum Scaled {
-    Second(u64),
-    Refused(u8),
-}
