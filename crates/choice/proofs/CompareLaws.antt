@@ -3,42 +3,42 @@ use mathlib.Core.Path.{◌≡◌, refl, sym, ap, ◌∙◌, subst}
 use mathlib.Core.List.Memᴰ
 use mathlib.Core.List.{List, ◌++◌, map, map-append, Memᴰ}
 use mathlib.Core.Logic.{◌⊎◌, inl, inr, ⊎_elim}
+use Rattle.std.proofs.Common.{Option, None}
 use Rattle.choice.specs.Choose.{better_of, best_of}
 use Rattle.choice.specs.Rank.{CandidateFits}
 use Rattle.choice.specs.Permutation.{Permutation}
 use Rattle.choice.specs.Compare.{Comparison, single, winners, compared_in, outcome_of, ComparesEach}
 use Rattle.choice.specs.declared.Candidate.{Candidate}
-use Rattle.choice.specs.declared.Candidate.TheVariants.{Nothing}
 use Rattle.choice.proofs.MonoidLaws.{Each, same_folded, parts_folded}
 use Rattle.choice.proofs.PermutationLaws.{members_there, members_back}
 use Rattle.choice.proofs.BetterLaws.{better_monoid}
 
 -- each of a list has its bits
-abbrev pub AllFit : List Candidate → Type 0
+abbrev pub AllFit : List (Option Candidate) → Type 0
 AllFit = Each better_monoid
 
 -- ---- order
 
 -- two lists that hold the same clocks
-pub best_same : (l k : List Candidate) → AllFit l → AllFit k
-    → ((x : Candidate) → Memᴰ x l → (x ≡ Nothing) ⊎ Memᴰ x k)
-    → ((x : Candidate) → Memᴰ x k → (x ≡ Nothing) ⊎ Memᴰ x l)
-    → best_of Nothing l ≡ best_of Nothing k
+pub best_same : (l k : List (Option Candidate)) → AllFit l → AllFit k
+    → ((x : Option Candidate) → Memᴰ x l → (x ≡ None) ⊎ Memᴰ x k)
+    → ((x : Option Candidate) → Memᴰ x k → (x ≡ None) ⊎ Memᴰ x l)
+    → best_of None l ≡ best_of None k
 unfolding best_of
 best_same l k fl fk there back = same_folded better_monoid l k fl fk there back
 
 -- every order of a list
-pub best_permuted : (l k : List Candidate) → AllFit l → Permutation l k → best_of Nothing l ≡ best_of Nothing k
+pub best_permuted : (l k : List (Option Candidate)) → AllFit l → Permutation l k → best_of None l ≡ best_of None k
 best_permuted l k fl p = best_same l k fl (λ x m. fl x (members_back p m)) (λ x m. inr (members_there p m)) (λ x m. inr (members_back p m))
 
 -- ---- grouping
 
 -- the better of the bests of two parts
-pub best_parts : (l k : List Candidate) → AllFit (l ++ k) → better_of (best_of Nothing l) (best_of Nothing k) ≡ best_of Nothing (l ++ k)
+pub best_parts : (l k : List (Option Candidate)) → AllFit (l ++ k) → better_of (best_of None l) (best_of None k) ≡ best_of None (l ++ k)
 unfolding best_of
 best_parts l k fits = sym (parts_folded better_monoid l k (λ x m. fits x (Memᴰ.append_left k m)) (λ x m. fits x (Memᴰ.append_right l m)))
 
-module _ {A : Type 0} (candidate : A → Candidate) where
+module _ {A : Type 0} (candidate : A → Option Candidate) where
   -- the candidate of each of these has its bits
   abbrev pub EachFits : List A → Type 0
   EachFits l = (a : A) → Memᴰ a l → CandidateFits (candidate a)
@@ -47,7 +47,7 @@ module _ {A : Type 0} (candidate : A → Candidate) where
   all_fit l fits x m = let (a, n, e) = Memᴰ.of_map candidate l m in subst CandidateFits e (fits a n)
 
   -- who wins is the best of those that are compared, one after the other
-  pub outcome_best : (way : Comparison A) → EachFits (compared_in way) → outcome_of candidate way ≡ best_of Nothing (map candidate (compared_in way))
+  pub outcome_best : (way : Comparison A) → EachFits (compared_in way) → outcome_of candidate way ≡ best_of None (map candidate (compared_in way))
   unfolding outcome_of compared_in best_of better_of
   outcome_best (single a) fits = refl
   outcome_best (winners x y) fits =
@@ -56,7 +56,7 @@ module _ {A : Type 0} (candidate : A → Candidate) where
       let whole = map-append candidate (compared_in x) (compared_in y) in
       (λ i. better_of (outcome_best x left i) (outcome_best y right i))
       ∙ best_parts (map candidate (compared_in x)) (map candidate (compared_in y)) (subst AllFit whole (all_fit (compared_in x ++ compared_in y) fits))
-      ∙ ap (best_of Nothing) (sym whole)
+      ∙ ap (best_of None) (sym whole)
 
   -- ---- both
 
@@ -69,10 +69,10 @@ module _ {A : Type 0} (candidate : A → Candidate) where
     compared_fits a m = fits a (from_all m)
 
     -- each candidate of one is none, or one of the other
-    compared_all : (x : Candidate) → Memᴰ x (map candidate (compared_in way)) → (x ≡ Nothing) ⊎ Memᴰ x (map candidate all)
+    compared_all : (x : Option Candidate) → Memᴰ x (map candidate (compared_in way)) → (x ≡ None) ⊎ Memᴰ x (map candidate all)
     compared_all x m = let (a, n, e) = Memᴰ.of_map candidate (compared_in way) m in inr (Memᴰ.cast (sym e) (Memᴰ.map candidate (from_all n)))
 
-    all_compared : (x : Candidate) → Memᴰ x (map candidate all) → (x ≡ Nothing) ⊎ Memᴰ x (map candidate (compared_in way))
+    all_compared : (x : Option Candidate) → Memᴰ x (map candidate all) → (x ≡ None) ⊎ Memᴰ x (map candidate (compared_in way))
     all_compared x m =
         let (a, n, e) = Memᴰ.of_map candidate all m in
         ⊎_elim
@@ -81,7 +81,7 @@ module _ {A : Type 0} (candidate : A → Candidate) where
         (Memᴰ.append_cases (compared_in way) (members_there each.once n))
 
     -- every way to compare each of a list once comes to the best of the list
-    pub any_way : outcome_of candidate way ≡ best_of Nothing (map candidate all)
+    pub any_way : outcome_of candidate way ≡ best_of None (map candidate all)
     any_way =
         outcome_best way compared_fits
         ∙ best_same (map candidate (compared_in way)) (map candidate all) (all_fit (compared_in way) compared_fits) (all_fit all fits) compared_all all_compared

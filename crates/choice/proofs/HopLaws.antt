@@ -4,9 +4,9 @@ use Prim.Native.Nat.{ℕ, ◌+◌, ◌-◌, ◌*◌, ◌<◌, ◌≤◌}
 use native.Mathlib.Omega.{arith}
 use borrow.Author.Tests.{lt-ltb, le-ltb}
 use lib.Dec.{ltb}
+use Rattle.std.proofs.Common.{None}
 use Rattle.choice.specs.Hop.{last_hop, jump_of, hop_step_of, hop_of}
 use Rattle.choice.specs.Choose.{chosen_hop}
-use Rattle.choice.specs.declared.Candidate.TheVariants.{Nothing}
 use Rattle.numbers.proofs.Branches.{if_when}
 
 -- ---- the jump
@@ -48,6 +48,6 @@ unfolding hop_of hop_step_of
 hop_within h chosen l = if_when (λ (n : ℕ). h + n ≤ last_hop) (ltb chosen h) (λ _. jump_within h l) (λ _. omega arith)
 
 -- where no clock is chosen, every frame that can be taken is held one hop on: H of no choice is no less than any hop below 255
-pub hop_unchosen : (h : ℕ) → h < 255 → hop_of h (chosen_hop Nothing) ≡ h + 1
+pub hop_unchosen : (h : ℕ) → h < 255 → hop_of h (chosen_hop None) ≡ h + 1
 unfolding chosen_hop
 hop_unchosen h l = sym (hop-step h last_hop (omega (arith, l)))

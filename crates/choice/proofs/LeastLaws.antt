@@ -9,23 +9,22 @@ use native.Mathlib.Nat.{le_trans, le_refl}
 use native.Mathlib.Omega.{arith}
 use borrow.Author.Tests.{ltb-true, ltb-false}
 use lib.Dec.{ltb}
+use Rattle.std.proofs.Common.{Option, Some, None}
 use Rattle.choice.specs.Precedence.{precedence_of, key_of}
 use Rattle.choice.specs.Choose.{rank_of, candidate_of, own_candidate, shown_port, shown_hop}
 use Rattle.choice.specs.Rank.{CandidateFits}
 use Rattle.choice.specs.Least.{no_rank, rank_in, announced_rank_of, own_rank_of, least_of, port_in, hop_in}
 use Rattle.choice.specs.declared.Precedence.{Precedence}
 use Rattle.choice.specs.declared.Announcement.{Announcement}
-use Rattle.choice.specs.declared.Announcement.TheVariants.{Silent, Announced}
 use Rattle.choice.specs.declared.Candidate.{Candidate}
-use Rattle.choice.specs.declared.Candidate.TheVariants.{Nothing, Clock}
 use Rattle.numbers.proofs.Branches.{if_when}
 
 -- ---- the rank of a candidate
 
-pub announced-rank : (port : ℕ) (a : Announcement) → announced_rank_of port a ≡ rank_in (candidate_of port a)
+pub announced-rank : (port : ℕ) (a : Option Announcement) → announced_rank_of port a ≡ rank_in (candidate_of port a)
 unfolding candidate_of
-announced-rank port Silent = refl
-announced-rank port (Announced precedence hop when) = refl
+announced-rank port None = refl
+announced-rank port (Some a) = refl
 
 pub own-rank : (capable : Bool) (own : Precedence) → own_rank_of capable own ≡ rank_in (own_candidate capable own)
 unfolding own_candidate
@@ -33,21 +32,21 @@ own-rank true own = refl
 own-rank false own = refl
 
 -- no candidate's rank is above that of none
-pub rank_most : (c : Candidate) → CandidateFits c → rank_in c ≤ no_rank
+pub rank_most : (c : Option Candidate) → CandidateFits c → rank_in c ≤ no_rank
 unfolding rank_of key_of precedence_of
-rank_most Nothing f = le_refl no_rank
-rank_most (Clock p h n) (f, k, l) = omega arith
+rank_most None f = le_refl no_rank
+rank_most (Some a) (f, k, l) = omega arith
 
 -- what is shown of a candidate stands in its rank, none as FF and FF
-pub port_in_rank : (c : Candidate) → CandidateFits c → shown_port c ≡ port_in (rank_in c)
+pub port_in_rank : (c : Option Candidate) → CandidateFits c → shown_port c ≡ port_in (rank_in c)
 unfolding shown_port rank_of
-port_in_rank Nothing f = refl
-port_in_rank (Clock p h n) (f, k, l) = omega arith
+port_in_rank None f = refl
+port_in_rank (Some a) (f, k, l) = omega arith
 
-pub hop_in_rank : (c : Candidate) → CandidateFits c → shown_hop c ≡ hop_in (rank_in c)
+pub hop_in_rank : (c : Option Candidate) → CandidateFits c → shown_hop c ≡ hop_in (rank_in c)
 unfolding shown_hop rank_of key_of
-hop_in_rank Nothing f = refl
-hop_in_rank (Clock p h n) (f, k, l) = omega arith
+hop_in_rank None f = refl
+hop_in_rank (Some a) (f, k, l) = omega arith
 
 -- ---- the least of a list
 

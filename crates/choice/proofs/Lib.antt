@@ -10,4 +10,3 @@ pub mod ShownLaws
 pub mod LeastLaws
 pub mod RankingLaws
 pub mod PlacesLaws
-pub mod PlaceLoops

@@ -2,15 +2,16 @@
 use mathlib.Core.Path.{◌≡◌, refl}
 use mathlib.Core.Bool.{Bool, true, false}
 use mathlib.Core.Logic.{◌≢◌, inl}
-use Prim.Native.Nat.{ℕ, ◌-◌, ◌^◌, ◌<◌, ◌≤◌}
+use Prim.Native.Nat.{◌-◌, ◌^◌, ◌<◌, ◌≤◌}
 use native.Mathlib.Omega.{arith}
 use borrow.Author.Tests.{ltb-true, ltb-false}
 use lib.Dec.{ltb, lit<}
+use Rattle.std.proofs.Common.{Some}
 use Rattle.choice.specs.Precedence.{precedence_of, worst_precedence}
 use Rattle.choice.specs.Choose.{better_of}
 use Rattle.choice.specs.Rank.{PrecedenceFits, CandidateFits}
 use Rattle.choice.specs.declared.Precedence.{Precedence}
-use Rattle.choice.specs.declared.Candidate.TheVariants.{Clock}
+use Rattle.choice.specs.declared.Candidate.{Candidate}
 use Rattle.choice.proofs.BetterLaws.{better_left, better_right}
 
 -- each part has its bits, all of them set
@@ -38,16 +39,16 @@ worst_only p f l =
     λ i. record { priority1 = priority1 i; source = source i; variance = variance i; priority2 = priority2 i; clock = clock i }
 
 -- no clock of another precedence loses to one of the worst, whatever their hops and ports are
-module _ (p : Precedence) (h i k j : ℕ) (f : CandidateFits (Clock p h i)) (g : CandidateFits (Clock worst_precedence k j)) (other : p ≢ worst_precedence) where
-  less : precedence_of p < precedence_of worst_precedence
-  less = by (ltb (precedence_of p) (precedence_of worst_precedence)) refl
+module _ (a b : Candidate) (f : CandidateFits (Some a)) (g : CandidateFits (Some b)) (worst : b.precedence ≡ worst_precedence) (other : a.precedence ≢ worst_precedence) where
+  less : precedence_of a.precedence < precedence_of b.precedence
+  less = rw worst (by (ltb (precedence_of a.precedence) (precedence_of worst_precedence)) refl)
     where
-      by : (t : Bool) → ltb (precedence_of p) (precedence_of worst_precedence) ≡ t → precedence_of p < precedence_of worst_precedence
+      by : (t : Bool) → ltb (precedence_of a.precedence) (precedence_of worst_precedence) ≡ t → precedence_of a.precedence < precedence_of worst_precedence
       by true e = ltb-true _ _ e
-      by false e = absurd (other (worst_only p f.0 (ltb-false _ _ e)))
+      by false e = absurd (other (worst_only a.precedence f.0 (ltb-false _ _ e)))
 
-  pub worst_loses_right : better_of (Clock p h i) (Clock worst_precedence k j) ≡ Clock p h i
-  worst_loses_right = better_left p h i worst_precedence k j f g (inl less)
+  pub worst_loses_right : better_of (Some a) (Some b) ≡ Some a
+  worst_loses_right = better_left a b f g (inl less)
 
-  pub worst_loses_left : better_of (Clock worst_precedence k j) (Clock p h i) ≡ Clock p h i
-  worst_loses_left = better_right p h i worst_precedence k j f g (inl less)
+  pub worst_loses_left : better_of (Some b) (Some a) ≡ Some a
+  worst_loses_left = better_right a b f g (inl less)

@@ -1,25 +1,23 @@
 -- The choice in numbers alone: the rank of each clock that may be chosen, the least of them, and the port and the held hop that stand in it.
-use Rattle.std.specs.Prelude.{Bool, cond, List, [], ◌∷◌, ℕ, ◌-◌, ◌/◌, ◌%◌, ◌^◌, ltb}
+use Rattle.std.specs.Prelude.{Bool, cond, List, [], ◌∷◌, ℕ, ◌-◌, ◌/◌, ◌%◌, ◌^◌, ltb, Option, Some, None}
 use Rattle.choice.specs.Choose.{rank_of}
 use Rattle.choice.specs.declared.Precedence.{Precedence}
 use Rattle.choice.specs.declared.Announcement.{Announcement}
-use Rattle.choice.specs.declared.Announcement.TheVariants.{Silent, Announced}
 use Rattle.choice.specs.declared.Candidate.{Candidate}
-use Rattle.choice.specs.declared.Candidate.TheVariants.{Nothing, Clock}
 
 -- the rank where there is no clock: all its 15 bytes, precedence, held hop and port, are FF
 abbrev pub no_rank : ℕ
 no_rank = 2 ^ 120 - 1
 
 -- the rank of a candidate as one number
-abbrev pub rank_in : Candidate → ℕ
-rank_in Nothing = no_rank
-rank_in (Clock precedence hop port) = rank_of precedence hop port
+abbrev pub rank_in : Option Candidate → ℕ
+rank_in None = no_rank
+rank_in (Some c) = rank_of c.precedence c.hop c.number
 
 -- the rank of a port by its announcement, and of the own clock, hop 0 and port 0, of a capable station
-abbrev pub announced_rank_of : ℕ → Announcement → ℕ
-announced_rank_of port Silent = no_rank
-announced_rank_of port (Announced precedence hop when) = rank_of precedence hop port
+abbrev pub announced_rank_of : ℕ → Option Announcement → ℕ
+announced_rank_of port None = no_rank
+announced_rank_of port (Some a) = rank_of a.precedence a.hop port
 
 abbrev pub own_rank_of : Bool → Precedence → ℕ
 own_rank_of capable own = cond capable (rank_of own 0 0) no_rank

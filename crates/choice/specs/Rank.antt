@@ -1,9 +1,8 @@
 -- How ranks are compared: a candidate's rank as two numbers, and the candidate that a rank names. No rule stands here: that the order of these numbers is that of ranks is `same_order`, and that a rank names its candidate `rank_candidate`.
-use Rattle.std.specs.Prelude.{◌≡◌, Bool, cond, ◌&&◌, ℕ, ◌+◌, ◌-◌, ◌*◌, ◌/◌, ◌%◌, ◌^◌, ◌<◌, eqb}
+use Rattle.std.specs.Prelude.{◌≡◌, Bool, cond, ◌&&◌, ℕ, ◌+◌, ◌-◌, ◌*◌, ◌/◌, ◌%◌, ◌^◌, ◌<◌, eqb, Option, Some, None}
 use Rattle.choice.specs.Choose.{rank_of}
 use Rattle.choice.specs.declared.Precedence.{Precedence}
 use Rattle.choice.specs.declared.Candidate.{Candidate}
-use Rattle.choice.specs.declared.Candidate.TheVariants.{Nothing, Clock}
 use Rattle.choice.specs.declared.Rank.{Rank}
 
 -- the lower number has 56 of a rank's 120 bits
@@ -15,9 +14,10 @@ abbrev pub last_number : ℕ
 last_number = 2 ^ 64 - 1
 
 -- a candidate's rank: of a clock's, the bits above the lower number and those in it
-unfoldable pub in_numbers : Candidate → Rank
-in_numbers Nothing = record { 0 = last_number; 1 = last_number }
-in_numbers (Clock p h n) = record { 0 = rank_of p h n / lower_end; 1 = rank_of p h n % lower_end }
+unfoldable pub in_numbers : Option Candidate → Rank
+in_numbers None = record { 0 = last_number; 1 = last_number }
+in_numbers (Some c) =
+    let rank = rank_of c.precedence c.hop c.number in record { 0 = rank / lower_end; 1 = rank % lower_end }
 
 -- each part of a precedence has its bits
 pub record PrecedenceFits (p : Precedence) : Type 0 where
@@ -28,18 +28,18 @@ pub record PrecedenceFits (p : Precedence) : Type 0 where
   pub clock : p.clock < 2 ^ 64
 
 -- and each part of a candidate
-abbrev pub CandidateFits : Candidate → Type 0
-CandidateFits Nothing = Unit {0}
-CandidateFits (Clock p h n) = PrecedenceFits p × (h < 2 ^ 8) × (n < 2 ^ 8)
+abbrev pub CandidateFits : Option Candidate → Type 0
+CandidateFits None = Unit {0}
+CandidateFits (Some c) = PrecedenceFits c.precedence × (c.hop < 2 ^ 8) × (c.number < 2 ^ 8)
 
 -- r is the rank of c
-pub record Ranks (r : Rank) (c : Candidate) : Type 0 where
+pub record Ranks (r : Rank) (c : Option Candidate) : Type 0 where
   pub is : r ≡ in_numbers c
   pub fits : CandidateFits c
 
 -- r is the rank of a candidate
 abbrev pub Ranked : Rank → Type 0
-Ranked r = (c : Candidate) × Ranks r c
+Ranked r = (c : Option Candidate) × Ranks r c
 
 -- a rank as one number, and whether two are the same
 abbrev pub worth_of : Rank → ℕ
@@ -59,5 +59,6 @@ precedence_at r = record {
 }
 
 -- the candidate that a rank names
-unfoldable pub candidate_at : Rank → Candidate
-candidate_at r = cond (eqb r.1 last_number) Nothing (Clock (precedence_at r) (r.1 / 2 ^ 8 % 2 ^ 8) (r.1 % 2 ^ 8))
+unfoldable pub candidate_at : Rank → Option Candidate
+candidate_at r =
+    cond (eqb r.1 last_number) None (Some (record { precedence = precedence_at r; hop = r.1 / 2 ^ 8 % 2 ^ 8; number = r.1 % 2 ^ 8 }))

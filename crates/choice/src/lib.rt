@@ -4,7 +4,7 @@
 use times::LocalTime;
 
 // How good a clock is, the weightiest part first; less is better.
-#[derive(Clone, Copy)]
+#[derive(Clone, Copy, PartialEq, Eq, PartialOrd, Ord)]
 pub struct Precedence {
     pub priority1: u8,
     pub source: u8,
@@ -13,20 +13,22 @@ pub struct Precedence {
     pub clock: u64,
 }
 
-// The announcement: precedence, held hop, and when it was heard.
+// A clock that was heard at a port: its precedence, the held hop, and when it was heard.
 #[derive(Clone, Copy)]
-pub enum Announcement {
-    Silent,
-    Announced(Precedence, u8, LocalTime),
+pub struct Announcement {
+    pub precedence: Precedence,
+    pub hop: u8,
+    pub heard_at: LocalTime,
 }
 
-// A clock to be chosen, or none: precedence, held hop, and port, 0 for the own clock.
+// A clock to be chosen: its precedence, the held hop, and its number, that of its port or 0 for the own clock.
 #[derive(Clone, Copy)]
-pub enum Candidate {
-    Nothing,
-    Clock(Precedence, u8, u8),
+pub struct Candidate {
+    pub precedence: Precedence,
+    pub hop: u8,
+    pub number: u8,
 }
 
 // A candidate's rank as two numbers, of which the first weighs more; both are the last there is where there is no candidate.
-#[derive(Clone, Copy)]
+#[derive(Clone, Copy, PartialEq, Eq, PartialOrd, Ord)]
 pub struct Rank(pub u64, pub u64);
