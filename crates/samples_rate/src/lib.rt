@@ -4,7 +4,7 @@
 ghost use Rattle.std.specs.Prelude.{◌≡◌, ◌<◌, ◌≤◌, ◌^◌, pos, nat_abs};
 ghost use Rattle.samples.specs.Rate.{Limits, gain_of, rate_of, scaled_of, advance_of, rate_within, neighbour_rate_of, longest_spread, steepest};
 
-use samples::{Gain, Pair};
+use samples::Pair;
 use times::{LocalTime, local};
 
 // The shortest and the longest spread over which a rate is taken.
@@ -21,21 +21,18 @@ const ONE: i64 = 0x8_0000_0000;
 const PARTS: u64 = 0x8_0000_0000;
 
 // What a clock that rose by `rise` gained over a spread s, where the limits hold.
-pub fn gained(rise: u64, s: u64) -> Gain
+pub fn gained(rise: u64, s: u64) -> Option<i64>
     requires { rise < 2 ^ 48 }
     ensures { result ≡ gain_of (pos rise) s }
 {
-    if s < SHORTEST {
-        return Gain::Outside;
-    }
-    if LONGEST < s {
-        return Gain::Outside;
+    if s < SHORTEST || LONGEST < s {
+        return None;
     }
     let d = numbers_whole::difference(rise, s);
     if numbers_whole::abs(d) * PER_GAIN <= s {
-        Gain::Within(d)
+        Some(d)
     } else {
-        Gain::Outside
+        None
     }
 }
 
@@ -69,17 +66,17 @@ pub fn rate_of_rise(rise: u64, s: u64) -> i64
     ensures { result ≡ rate_within (gain_of (pos rise) s) s }
 {
     match gained(rise, s) {
-        Gain::Within(d) => rate(d, s),
-        Gain::Outside => 0,
+        Some(d) => rate(d, s),
+        None => 0,
     }
 }
 
-// The neighbour's rate, from the stored pair to the new one.
-pub fn neighbour_rate(pair: Pair, local: LocalTime, p: LocalTime) -> i64
+// The neighbour's rate, from the stored pair to the new one; 0 where there is none.
+pub fn neighbour_rate(pair: Option<Pair>, local: LocalTime, p: LocalTime) -> i64
     ensures { result ≡ neighbour_rate_of pair local p }
 {
-    match pair {
-        Pair::Unset => 0,
-        Pair::Set(local0, p0) => { rate_of_rise(local::since(p, p0), local::since(local, local0)) }
-    }
+    let Some(pair) = pair else {
+        return 0;
+    };
+    rate_of_rise(local::since(p, pair.here), local::since(local, pair.there))
 }
