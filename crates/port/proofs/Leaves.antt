@@ -2,6 +2,7 @@
 use mathlib.Core.Path.{◌≡◌, refl, subst}
 use mathlib.Core.Bool.{true}
 use Prim.Native.Nat.{ℕ}
+use Rattle.refusals.specs.Answer.{answer_number}
 use Rattle.times.specs.declared.LocalTime.{LocalTime}
 use Rattle.times.specs.declared.GrandTime.{GrandTime}
 use Rattle.frame.specs.declared.Fields.{Fields}
@@ -12,25 +13,24 @@ use Rattle.port.specs.Leaves.{Noted, NotedClock, Used, Aged}
 use Rattle.port.specs.declared.Setting.{Setting}
 use Rattle.port.specs.declared.Port.{Port}
 use Rattle.port.specs.declared.OwnClock.{OwnClock}
-use Rattle.port.specs.declared.PortDone.{PortDone}
-use Rattle.port.specs.declared.ClockDone.{ClockDone}
+use Rattle.port.specs.declared.Outcome.{Outcome}
 use Rattle.port.proofs.PortLaws.{aged_old, received_is, own_reading_is}
 
 -- a frame that is not taken is noted
 pub received_noted : (setting : Setting) (chosen : ℕ) (f : Fields) (at : LocalTime) (port : Port)
-    → ((received_of setting chosen f at port).answer ≡ 0 → ⊥) → Noted f.count at port (received_of setting chosen f at port).port
+    → (answer_number (received_of setting chosen f at port).answer ≡ 0 → ⊥) → Noted f.count at port (received_of setting chosen f at port).after
 received_noted setting chosen f at port =
-    received_is setting chosen f at port (λ (d : PortDone). (d.answer ≡ 0 → ⊥) → Noted f.count at port d.port)
+    received_is setting chosen f at port (λ (d : Outcome Port). (answer_number d.answer ≡ 0 → ⊥) → Noted f.count at port d.after)
     (λ _ _ _ _. record { preceding = refl; announcement = refl; samples = refl; pair = refl; echo = refl; next = refl })
-    (λ _ _ _ _ _ refused. absurd (refused refl))
+    (λ _ _ _ _ refused. absurd (refused refl))
 
 -- a reading of the own clock that is not taken is noted
 pub own_reading_noted : (count : ℕ) (grand : GrandTime) (now : LocalTime) (clock : OwnClock)
-    → ((own_reading_of count grand now clock).answer ≡ 0 → ⊥) → NotedClock count now clock (own_reading_of count grand now clock).clock
+    → (answer_number (own_reading_of count grand now clock).answer ≡ 0 → ⊥) → NotedClock count now clock (own_reading_of count grand now clock).after
 own_reading_noted count grand now clock =
-    own_reading_is count grand now clock (λ (d : ClockDone). (d.answer ≡ 0 → ⊥) → NotedClock count now clock d.clock)
+    own_reading_is count grand now clock (λ (d : Outcome OwnClock). (answer_number d.answer ≡ 0 → ⊥) → NotedClock count now clock d.after)
     (λ _. record { preceding = refl; samples = refl })
-    (λ _ _ _ refused. absurd (refused refl))
+    (λ _ _ refused. absurd (refused refl))
 
 -- a send uses the next frameCount up
 pub sent_used : (port : Port) → Used port (used_port port)

@@ -1,9 +1,10 @@
 -- The paper's numbers at the edges: every marked line in the paper's order, one table.
-use Rattle.std.specs.Prelude.{true, List, [], ◌∷◌, ℕ, ◌+◌, ◌-◌, ◌*◌, ◌^◌, ℤ, pos, neg_ℤ}
+use Rattle.std.specs.Prelude.{true, List, [], ◌∷◌, ℕ, ◌+◌, ◌-◌, ◌*◌, ◌^◌, ℤ, pos, neg_ℤ, None, Result, Ok, Err}
+use Rattle.refusals.specs.Refusals.{number_of}
+use Rattle.refusals.specs.declared.Refusal.{Refusal}
 use Rattle.times.specs.Times.{second, since_of, units, grand_of}
 use Rattle.choice.specs.Hop.{hop_of}
 use Rattle.choice.specs.Choose.{chosen_hop}
-use Rattle.choice.specs.declared.Candidate.TheVariants.{Nothing}
 use Rattle.times.specs.declared.LocalTime.{LocalTime}
 use Rattle.samples.specs.Rate.{rate_of, scaled_of}
 use Rattle.samples.specs.Keep.{kept_of, how_many}
@@ -11,9 +12,8 @@ use Rattle.samples.specs.declared.Sample.{Sample}
 use Rattle.samples.specs.declared.Samples.{Samples}
 use Rattle.samples.specs.declared.Samples.TheVariants.{One}
 use Rattle.delay.specs.Delay.{delay_of}
-use Rattle.timeline.specs.Sent.{sent_of, sent_no}
+use Rattle.timeline.specs.Sent.{sent_of}
 use Rattle.timeline.specs.declared.Sent.{Sent}
-use Rattle.timeline.specs.declared.Sent.TheVariants.{At, Few, Late, Beyond}
 
 -- what the definitions give, and what the paper says
 pub record Row : Type 0 where
@@ -46,11 +46,9 @@ abbrev many : Samples → ℤ
 many samples = pos (how_many samples)
 
 -- the units of a sent time, or a refusal's number below zero
-abbrev pub sent : Sent → ℤ
-sent (At g e) = pos (units g)
-sent Few = minus (sent_no Few)
-sent Late = minus (sent_no Late)
-sent Beyond = minus (sent_no Beyond)
+abbrev pub sent : Result Sent Refusal → ℤ
+sent (Ok times) = pos (units times.grand)
+sent (Err refusal) = minus (number_of refusal)
 
 -- g1 = 100 s + 2^34 + 2, d 2, S 2^34, and r1 = 2^34
 abbrev line : Samples
@@ -80,7 +78,7 @@ table =
     -- hops: h, H
     ∷ row (pos (hop_of 2 3)) (pos 3)
     ∷ row (pos (hop_of 3 2)) (pos 129)
-    ∷ row (pos (hop_of 3 (chosen_hop Nothing))) (pos 4)
+    ∷ row (pos (hop_of 3 (chosen_hop None))) (pos 4)
     ∷ row (pos (hop_of 253 10)) (pos 254)
     ∷ row (pos (hop_of 254 10)) (pos 255)
     -- backTime 2^33, t = r1 + 2^34

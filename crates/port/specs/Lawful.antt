@@ -1,36 +1,33 @@
 -- What holds of every number in a record that a call hands back, and of the fields of a frame that was read: each is in the range that document 01
 -- gives it, and samples are such as step 4 keeps.
-use Rattle.std.specs.Prelude.{◌<◌, ◌≤◌}
+use Rattle.std.specs.Prelude.{◌<◌, ◌≤◌, Option, Some, None}
 use Rattle.times.specs.Times.{circle, counts, InRange}
 use Rattle.samples.specs.Keep.{LawfulSamples}
 use Rattle.samples.specs.declared.Pair.{Pair}
-use Rattle.samples.specs.declared.Pair.TheVariants.{Unset, Set}
 use Rattle.choice.specs.Hop.{last_hop}
 use Rattle.choice.specs.Rank.{PrecedenceFits}
 use Rattle.choice.specs.declared.Announcement.{Announcement}
-use Rattle.choice.specs.declared.Announcement.TheVariants.{Silent, Announced}
 use Rattle.frame.specs.Demands.{Typed}
 use Rattle.frame.specs.declared.Mac.{Mac}
 use Rattle.frame.specs.declared.Fields.{Fields}
 use Rattle.port.specs.declared.Preceding.{Preceding}
-use Rattle.port.specs.declared.Preceding.TheVariants.{Never, Was}
 use Rattle.port.specs.declared.Port.{Port}
 use Rattle.port.specs.declared.OwnClock.{OwnClock}
 
 -- the frameCount and the arrival of the preceding frame: one of 256 counts, and a local time
-abbrev pub LawfulPreceding : Preceding → Type 0
-LawfulPreceding Never = Unit {0}
-LawfulPreceding (Was count at) = (count < counts) × (at.0 < circle)
+abbrev pub LawfulPreceding : Option Preceding → Type 0
+LawfulPreceding None = Unit {0}
+LawfulPreceding (Some held) = (held.count < counts) × (held.arrival.0 < circle)
 
 -- an announcement: a precedence whose parts have their bits, a held hop up to the last, and heard-at, a local time
-abbrev pub LawfulAnnouncement : Announcement → Type 0
-LawfulAnnouncement Silent = Unit {0}
-LawfulAnnouncement (Announced precedence hop heard_at) = PrecedenceFits precedence × (hop ≤ last_hop) × (heard_at.0 < circle)
+abbrev pub LawfulAnnouncement : Option Announcement → Type 0
+LawfulAnnouncement None = Unit {0}
+LawfulAnnouncement (Some held) = PrecedenceFits held.precedence × (held.hop ≤ last_hop) × (held.heard_at.0 < circle)
 
 -- a pair, and an echo: two local times
-abbrev pub LawfulPair : Pair → Type 0
-LawfulPair Unset = Unit {0}
-LawfulPair (Set local p) = (local.0 < circle) × (p.0 < circle)
+abbrev pub LawfulPair : Option Pair → Type 0
+LawfulPair None = Unit {0}
+LawfulPair (Some pair) = (pair.there.0 < circle) × (pair.here.0 < circle)
 
 -- a port's record: every part of it, and the next frameCount
 pub record LawfulPort (port : Port) : Type 0 where

@@ -1,16 +1,13 @@
 -- What a call that takes no frame leaves of a record, field by field.
-use Rattle.std.specs.Prelude.{◌≡◌, ℕ, ◌+◌, ◌%◌}
+use Rattle.std.specs.Prelude.{◌≡◌, ℕ, ◌+◌, ◌%◌, Some, None}
 use Rattle.times.specs.declared.LocalTime.{LocalTime}
 use Rattle.samples.specs.declared.Samples.TheVariants.{Empty}
-use Rattle.samples.specs.declared.Pair.TheVariants.{Unset}
-use Rattle.choice.specs.declared.Announcement.TheVariants.{Silent}
-use Rattle.port.specs.declared.Preceding.TheVariants.{Was}
 use Rattle.port.specs.declared.Port.{Port}
 use Rattle.port.specs.declared.OwnClock.{OwnClock}
 
 -- a frame refused with 7, 8 or 9: its frameCount and arrival are the preceding frame's, and all else is as before; heard-at is a part of the announcement
 pub record Noted (count : ℕ) (at : LocalTime) (held left : Port) : Type 0 where
-  pub preceding : left.preceding ≡ Was count at
+  pub preceding : left.preceding ≡ Some (record { count = count; arrival = at })
   pub announcement : left.announcement ≡ held.announcement
   pub samples : left.samples ≡ held.samples
   pub pair : left.pair ≡ held.pair
@@ -19,7 +16,7 @@ pub record Noted (count : ℕ) (at : LocalTime) (held left : Port) : Type 0 wher
 
 -- a reading of the own clock refused with 8: its frameCount and now are stored, and the samples are as before
 pub record NotedClock (count : ℕ) (now : LocalTime) (held left : OwnClock) : Type 0 where
-  pub preceding : left.preceding ≡ Was count now
+  pub preceding : left.preceding ≡ Some (record { count = count; arrival = now })
   pub samples : left.samples ≡ held.samples
 
 -- a send: the next frameCount is used up, and all else is as before
@@ -34,8 +31,8 @@ pub record Used (held left : Port) : Type 0 where
 -- an announcement too old: it goes, with samples and echo, and all else is as before, the pair of step 1 included
 pub record Aged (held left : Port) : Type 0 where
   pub preceding : left.preceding ≡ held.preceding
-  pub announcement : left.announcement ≡ Silent
+  pub announcement : left.announcement ≡ None
   pub samples : left.samples ≡ Empty
   pub pair : left.pair ≡ held.pair
-  pub echo : left.echo ≡ Unset
+  pub echo : left.echo ≡ None
   pub next : left.count ≡ held.count

@@ -1,29 +1,28 @@
 -- Document 01's literals of times, of steps 1 to 4, of Age and of Send, as one record and what it hears and sends show them.
-use Rattle.std.specs.Prelude.{true, List, [], ◌∷◌, ◌++◌, ℕ, ◌+◌, ◌-◌, ◌*◌, ◌^◌, pos, neg_ℤ}
+use Rattle.std.specs.Prelude.{true, List, [], ◌∷◌, ◌++◌, ℕ, ◌+◌, ◌-◌, ◌*◌, ◌^◌, pos, neg_ℤ, Option, Some, None}
 use Rattle.refusals.specs.Literals.{Literal, literal, tested}
+use Rattle.refusals.specs.Answer.{answer_number}
 use Rattle.numbers.specs.Whole.{at_least_zero}
 use Rattle.times.specs.Times.{since_of, grand_of, moment_of, next_count}
-use Rattle.times.specs.declared.Moment.{Moment}
-use Rattle.times.specs.declared.Moment.TheVariants as Moments
+use Rattle.times.specs.declared.GrandTime.{GrandTime}
 use Rattle.samples.specs.Rate.{limits_hold, rate_of}
 use Rattle.samples.specs.declared.Samples.TheVariants.{Empty, One, Two}
-use Rattle.delay.specs.Delay.{measured_of, link_delay_of, delay_no}
+use Rattle.delay.specs.Delay.{measured_of, link_delay_of}
 use Rattle.delay.specs.declared.DelaySetting.{DelaySetting}
 use Rattle.delay.specs.declared.DelaySetting.TheVariants.{Measured, Fixed}
 use Rattle.timeline.specs.Drift.{million}
-use Rattle.timeline.specs.Sent.{sent_of, sent_no}
+use Rattle.timeline.specs.Sent.{sent_of}
 use Rattle.choice.specs.Hop.{hop_of}
 use Rattle.choice.specs.Choose.{own_candidate, chosen_hop}
 use Rattle.choice.specs.declared.Precedence.{Precedence}
-use Rattle.choice.specs.declared.Announcement.TheVariants.{Announced}
-use Rattle.choice.specs.declared.Candidate.TheVariants.{Nothing}
+use Rattle.choice.specs.declared.Announcement.{Announcement}
 use Rattle.frame.specs.Frame.{first_version}
 use Rattle.frame.specs.declared.Fields.{Fields}
 use Rattle.frame.specs.declared.Mac.{Mac}
 use Rattle.port.specs.Record.{empty_port, empty_clock, too_old}
 use Rattle.port.specs.Own.{own_reading_of}
 use Rattle.port.specs.Receive.{noted_port, received_of}
-use Rattle.port.specs.Send.{sending_of, sending_no}
+use Rattle.port.specs.Send.{sending_of}
 use Rattle.port.specs.Edges.{local, sample}
 use Rattle.port.specs.declared.Profile.TheVariants.{Full}
 use Rattle.port.specs.declared.Port.{Port}
@@ -38,9 +37,9 @@ precedence = record { priority1 = 0; source = 0; variance = 0; priority2 = 0; cl
 -- ---- times
 
 -- whether there is a moment, 1 where there is
-abbrev found : Moment → ℕ
-found (Moments.At g) = 1
-found Moments.Beyond = 0
+abbrev found : Option GrandTime → ℕ
+found (Some g) = 1
+found None = 0
 
 abbrev times : List Literal
 times =
@@ -58,11 +57,11 @@ times =
 
 -- a round trip and a turn at rate 0, by the refusal
 abbrev measured : ℕ → ℕ → ℕ
-measured trip turn = delay_no (measured_of (pos 0) trip turn)
+measured trip turn = answer_number (measured_of (pos 0) trip turn)
 
 -- a frame whose preceding one came in at 2^40, with these that-fields, by the refusal
 abbrev delayed : DelaySetting → ℕ → ℕ → ℕ
-delayed setting tx rx = delay_no (link_delay_of setting (pos 0) (local 0) (local (2 ^ 40)) (local tx) (local rx))
+delayed setting tx rx = answer_number (link_delay_of setting (pos 0) (local 0) (local (2 ^ 40)) (local tx) (local rx))
 
 -- a frame with this hopCount and frameCount, on a port that heard this frameCount last, or nothing, by the refusal
 abbrev frame : ℕ → ℕ → Fields
@@ -80,7 +79,7 @@ frame hop count = record {
 }
 
 abbrev received : Port → ℕ → ℕ → ℕ
-received port hop count = (received_of (record { delay = Measured }) 255 (frame hop count) (local 0) port).answer
+received port hop count = answer_number (received_of (record { delay = Measured }) 255 (frame hop count) (local 0) port).answer
 
 abbrev heard : ℕ → Port
 heard count = noted_port count (local 0) empty_port
@@ -112,7 +111,7 @@ steps =
     ∷ literal (delayed (Fixed (2 ^ 30)) 0 1) 0
     -- H is 0 for own, 255 if none
     ∷ literal (chosen_hop (own_candidate true precedence)) 0
-    ∷ literal (chosen_hop Nothing) 255
+    ∷ literal (chosen_hop None) 255
     -- h = H takes n = 1; h above H takes half of what is left to 255
     ∷ literal (hop_of 7 7) 8
     ∷ literal (hop_of 8 7) 131
@@ -124,26 +123,30 @@ steps =
     ∷ literal (received (heard 0) 254 0) 8
     ∷ literal (received (heard 0) 254 1) 0
     -- and so for the own clock's first reading
-    ∷ literal (own_reading_of 0 (grand_of 0) (local 0) empty_clock).answer 8
+    ∷ literal (answer_number (own_reading_of 0 (grand_of 0) (local 0) empty_clock).answer) 8
     ∷ []
 
 -- ---- Age, Send and Drift
 
 -- two samples 2^34 apart, the newer at this grand time and at the local time 2^34; a departure so long after it, by the refusal
 abbrev departs : ℕ → ℕ → ℕ
-departs newer elapsed = sent_no (sent_of (Two (sample (newer - 2 ^ 34) 0) (sample newer (2 ^ 34))) (local (2 ^ 34 + elapsed)) 0 0)
+departs newer elapsed = answer_number (sent_of (Two (sample (newer - 2 ^ 34) 0) (sample newer (2 ^ 34))) (local (2 ^ 34 + elapsed)) 0 0)
+
+-- a clock heard at the local time 0
+abbrev announced : Option Announcement
+announced = Some (record { precedence = precedence; hop = 0; heard_at = local 0 })
 
 abbrev sends : List Literal
 sends =
     -- now - heard-at >= timeout
-    literal (tested (too_old (Announced precedence 0 (local 0)) (local (2 ^ 39 - 1)) (2 ^ 39))) 0
-    ∷ literal (tested (too_old (Announced precedence 0 (local 0)) (local (2 ^ 39)) (2 ^ 39))) 1
+    literal (tested (too_old announced (local (2 ^ 39 - 1)) (2 ^ 39))) 0
+    ∷ literal (tested (too_old announced (local (2 ^ 39)) (2 ^ 39))) 1
     -- the first frameCount is 0
     ∷ literal empty_port.count 0
     -- no clock chosen; fewer than two samples
-    ∷ literal (sending_no (sending_of Nothing Empty (record { profile = Full; mac = address; back = 0 }) first_version (local 0) empty_port)) 10
-    ∷ literal (sent_no (sent_of Empty (local 0) 0 0)) 11
-    ∷ literal (sent_no (sent_of (One (sample 0 0)) (local 0) 0 0)) 11
+    ∷ literal (answer_number (sending_of None Empty (record { profile = Full; mac = address; back = 0 }) first_version (local 0) empty_port)) 10
+    ∷ literal (answer_number (sent_of Empty (local 0) 0 0)) 11
+    ∷ literal (answer_number (sent_of (One (sample 0 0)) (local 0) 0 0)) 11
     -- departure minus newer sample below 2^39, sent grand time below 2^80
     ∷ literal (departs (2 ^ 40) (2 ^ 39 - 1)) 0
     ∷ literal (departs (2 ^ 40) (2 ^ 39)) 12

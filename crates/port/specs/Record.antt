@@ -1,30 +1,27 @@
 -- The records: empty, aged, and with a frameCount used up.
-use Rattle.std.specs.Prelude.{ℕ, Bool, false, cond, leb}
+use Rattle.std.specs.Prelude.{ℕ, Bool, false, cond, leb, Option, Some, None}
 use Rattle.times.specs.Times.{since_of, next_count}
 use Rattle.times.specs.declared.LocalTime.{LocalTime}
 use Rattle.samples.specs.declared.Samples.TheVariants.{Empty}
-use Rattle.samples.specs.declared.Pair.TheVariants.{Unset}
 use Rattle.choice.specs.declared.Announcement.{Announcement}
-use Rattle.choice.specs.declared.Announcement.TheVariants.{Silent, Announced}
-use Rattle.port.specs.declared.Preceding.TheVariants.{Never}
 use Rattle.port.specs.declared.Port.{Port}
 use Rattle.port.specs.declared.OwnClock.{OwnClock}
 
 -- nothing is stored at first
 abbrev pub empty_port : Port
-empty_port = record { preceding = Never; announcement = Silent; samples = Empty; pair = Unset; echo = Unset; count = 0 }
+empty_port = record { preceding = None; announcement = None; samples = Empty; pair = None; echo = None; count = 0 }
 
 abbrev pub empty_clock : OwnClock
-empty_clock = record { preceding = Never; samples = Empty }
+empty_clock = record { preceding = None; samples = Empty }
 
 -- without announcement, samples and echo
 abbrev pub silenced : Port → Port
-silenced port = record { preceding = port.preceding; announcement = Silent; samples = Empty; pair = port.pair; echo = Unset; count = port.count }
+silenced port = record port { announcement = None; samples = Empty; echo = None }
 
 -- an announcement heard a timeout ago or longer is too old
-abbrev pub too_old : Announcement → LocalTime → ℕ → Bool
-too_old Silent at timeout = false
-too_old (Announced precedence hop heard_at) at timeout = leb timeout (since_of at heard_at)
+abbrev pub too_old : Option Announcement → LocalTime → ℕ → Bool
+too_old None at timeout = false
+too_old (Some held) at timeout = leb timeout (since_of at held.heard_at)
 
 -- Age on one port: with an announcement that is too old go samples and echo
 unfoldable pub aged_port : LocalTime → ℕ → Port → Port
@@ -32,7 +29,7 @@ aged_port at timeout port = cond (too_old port.announcement at timeout) (silence
 
 -- with another next frameCount
 abbrev pub with_count : Port → ℕ → Port
-with_count port count = record { preceding = port.preceding; announcement = port.announcement; samples = port.samples; pair = port.pair; echo = port.echo; count = count }
+with_count port count = record port { count = count }
 
 -- Send on one port: its next frameCount is used up
 abbrev pub used_port : Port → Port

@@ -1,13 +1,12 @@
 -- C-20's cases: how many samples are kept, how far apart their ends are, and the rate, at the limits of the newest and of the oldest that stays, with clocks that
 -- bend; and what is sent off three.
-use Rattle.std.specs.Prelude.{true, false, List, [], ◌∷◌, ℕ, ◌+◌, ◌-◌, ◌*◌, ◌^◌, ℤ, pos}
+use Rattle.std.specs.Prelude.{true, false, List, [], ◌∷◌, ℕ, ◌+◌, ◌-◌, ◌*◌, ◌^◌, ℤ, pos, Option, Some, None}
 use Rattle.times.specs.Times.{second}
 use Rattle.samples.specs.Keep.{spread_of, rate_between, kept_of, how_many, ends_of}
 use Rattle.samples.specs.declared.Sample.{Sample}
 use Rattle.samples.specs.declared.Samples.{Samples}
 use Rattle.samples.specs.declared.Samples.TheVariants.{Empty}
 use Rattle.samples.specs.declared.Ends.{Ends}
-use Rattle.samples.specs.declared.Ends.TheVariants.{Few, Both}
 use Rattle.timeline.specs.Sent.{sent_of}
 use Rattle.port.specs.Edges.{Row, row, minus, local, sample, sent}
 
@@ -34,13 +33,13 @@ even r = gained r 0
 abbrev many : List Sample → ℤ
 many samples = pos (how_many (kept samples))
 
-abbrev spread : Ends → ℤ
-spread Few = pos 0
-spread (Both a b) = pos (spread_of a b)
+abbrev spread : Option Ends → ℤ
+spread None = pos 0
+spread (Some ends) = pos (spread_of ends.oldest ends.newest)
 
-abbrev rate : Ends → ℤ
-rate Few = pos 0
-rate (Both a b) = rate_between a b
+abbrev rate : Option Ends → ℤ
+rate None = pos 0
+rate (Some ends) = rate_between ends.oldest ends.newest
 
 abbrev apart : List Sample → ℤ
 apart samples = spread (ends_of (kept samples))

@@ -5,32 +5,33 @@ pub mod record;
 
 use choice::Announcement;
 use delay::DelaySetting;
-use frame::{Fields, Mac};
+use frame::Mac;
+use refusals::Refusal;
 use samples::{Pair, Samples};
 use times::LocalTime;
 
 // The frameCount and the arrival of the preceding frame, the next p.
 #[derive(Clone, Copy)]
-pub enum Preceding {
-    Never,
-    Was(u8, LocalTime),
+pub struct Preceding {
+    pub count: u8,
+    pub arrival: LocalTime,
 }
 
 // All that is stored of a port; the count is its next frameCount.
 #[derive(Clone, Copy)]
 pub struct Port {
-    pub preceding: Preceding,
-    pub announcement: Announcement,
+    pub preceding: Option<Preceding>,
+    pub announcement: Option<Announcement>,
     pub samples: Samples,
-    pub pair: Pair,
-    pub echo: Pair,
+    pub pair: Option<Pair>,
+    pub echo: Option<Pair>,
     pub count: u8,
 }
 
 // All that is stored of the station's own clock.
 #[derive(Clone, Copy)]
 pub struct OwnClock {
-    pub preceding: Preceding,
+    pub preceding: Option<Preceding>,
     pub samples: Samples,
 }
 
@@ -55,23 +56,9 @@ pub struct Sender {
     pub back: u64,
 }
 
-// What a frame or a send is answered with, 0 for done, and the port's record after it.
+// What a frame, a send or a reading of the own clock is answered with, and the record after it.
 #[derive(Clone, Copy)]
-pub struct PortDone {
-    pub answer: u8,
-    pub port: Port,
-}
-
-// What a reading of the own clock is answered with, 0 for done, and its record after it.
-#[derive(Clone, Copy)]
-pub struct ClockDone {
-    pub answer: u8,
-    pub clock: OwnClock,
-}
-
-// The fields of a frame to be sent, or the refusal's number.
-#[derive(Clone, Copy)]
-pub enum Sending {
-    Refused(u8),
-    Frame(Fields),
+pub struct Outcome<R> {
+    pub answer: Result<(), Refusal>,
+    pub after: R,
 }

@@ -2,9 +2,9 @@
 ghost use Rattle.std.specs.Prelude.{◌≡◌, true, cond};
 ghost use Rattle.port.specs.Record.{empty_port, empty_clock, too_old, aged_port};
 
-use crate::{OwnClock, Port, Preceding};
+use crate::{OwnClock, Port};
 use choice::Announcement;
-use samples::{Pair, Samples};
+use samples::Samples;
 use times::{LocalTime, local};
 
 // A record of which nothing is stored.
@@ -12,11 +12,11 @@ pub fn empty() -> Port
     ensures { result ≡ empty_port }
 {
     Port {
-        preceding: Preceding::Never,
-        announcement: Announcement::Silent,
+        preceding: None,
+        announcement: None,
         samples: Samples::Empty,
-        pair: Pair::Unset,
-        echo: Pair::Unset,
+        pair: None,
+        echo: None,
         count: 0,
     }
 }
@@ -26,57 +26,45 @@ pub fn empty_clock() -> OwnClock
     ensures { result ≡ empty_clock }
 {
     OwnClock {
-        preceding: Preceding::Never,
+        preceding: None,
         samples: Samples::Empty,
     }
 }
 
 // Whether an announcement is as old as the timeout.
-fn too_old(announcement: Announcement, at: LocalTime, timeout: u64) -> bool
+fn too_old(announcement: Option<Announcement>, at: LocalTime, timeout: u64) -> bool
     ensures { result ≡ too_old announcement at timeout }
 {
-    match announcement {
-        Announcement::Silent => false,
-        Announcement::Announced(_, _, heard_at) => timeout <= local::since(at, heard_at),
-    }
+    announcement.is_some_and(|held| timeout <= local::since(at, held.heard_at))
 }
 
 // Whether an announcement as old as the timeout was found before, or is in this record.
 pub fn finds_old(found: bool, port: Port, at: LocalTime, timeout: u64) -> bool
     ensures { result ≡ cond found true (too_old port.announcement at timeout) }
 {
-    let announcement = port.announcement;
-    if found {
-        true
-    } else {
-        too_old(announcement, at, timeout)
-    }
+    found || too_old(port.announcement, at, timeout)
 }
 
 // The record without announcement, samples and echo, where the announcement is as old as the timeout.
+#[tactic(auto, unfolding(crate::specs::Record::aged_port))]
 pub fn aged(port: Port, at: LocalTime, timeout: u64) -> Port
     ensures { result ≡ aged_port at timeout port }
 {
-    let announcement = port.announcement;
-    if too_old(announcement, at, timeout) {
-        let preceding = port.preceding;
-        let pair = port.pair;
-        return Port {
-            preceding: preceding,
-            announcement: Announcement::Silent,
+    if too_old(port.announcement, at, timeout) {
+        Port {
+            announcement: None,
             samples: Samples::Empty,
-            pair: pair,
-            echo: Pair::Unset,
-            count: port.count,
-        };
+            echo: None,
+            ..port
+        }
+    } else {
+        port
     }
-    port
 }
 
 // The samples in a record.
 pub fn samples(port: Port) -> Samples
     ensures { result ≡ port.samples }
 {
-    let samples = port.samples;
-    samples
+    port.samples
 }

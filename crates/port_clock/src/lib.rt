@@ -4,50 +4,44 @@
 ghost use Rattle.std.specs.Prelude.{◌≡◌};
 ghost use Rattle.times.specs.Times.{InRange};
 ghost use Rattle.samples.specs.Keep.{LawfulSamples};
-ghost use Rattle.port.specs.Own.{stored_as, own_reading_of};
+ghost use Rattle.port.specs.Own.{own_reading_of};
 
-use port::{ClockDone, OwnClock, Preceding};
-use samples::{Sample, Samples};
+use port::{Outcome, OwnClock, Preceding};
+use refusals::Refusal;
+use samples::Sample;
 use times::{ErrorTime, GrandTime, LocalTime, local};
 
-// The record with these samples, and with the reading's frameCount and time.
-fn stored(answer: u8, samples: Samples, count: u8, at: LocalTime) -> ClockDone
-    ensures { result ≡ stored_as answer samples count at }
-{
-    ClockDone {
-        answer: answer,
-        clock: OwnClock {
-            preceding: Preceding::Was(count, at),
-            samples: samples,
-        },
-    }
-}
-
-// A reading: the grand time belongs to the time of the preceding one.
-pub fn own_clock(clock: OwnClock, count: u8, grand: GrandTime, at: LocalTime) -> ClockDone
+// A reading: the grand time belongs to the time of the preceding one, on whose frameCount it has to follow.
+#[tactic(auto, unfolding(port::specs::Own::own_reading_of))]
+pub fn own_clock(
+    clock: OwnClock,
+    count: u8,
+    grand: GrandTime,
+    at: LocalTime,
+) -> Outcome<OwnClock>
     requires lawful_samples { LawfulSamples clock.samples }
     requires in_range { InRange grand }
     ensures { result ≡ own_reading_of count grand at clock }
 {
-    let preceding = clock.preceding;
-    let samples = clock.samples;
-    match preceding {
-        Preceding::Never => stored(refusals::NOT_NEXT, samples, count, at),
-        Preceding::Was(held, when) => {
-            if count == local::next_count(held) {
-                let sample = Sample {
-                    grand: grand,
-                    local: when,
-                    error: ErrorTime(0),
-                };
-                return stored(
-                    refusals::DONE,
-                    samples_kept::keep(samples, true, sample),
-                    count,
-                    at,
-                );
+    let preceding = Some(Preceding { count, arrival: at });
+    match clock.preceding {
+        Some(held) if count == local::next_count(held.count) => {
+            let sample = Sample {
+                grand,
+                local: held.arrival,
+                error: ErrorTime(0),
+            };
+            Outcome {
+                answer: Ok(()),
+                after: OwnClock {
+                    preceding,
+                    samples: samples_kept::keep(clock.samples, true, sample),
+                },
             }
-            stored(refusals::NOT_NEXT, samples, count, at)
         }
+        _ => Outcome {
+            answer: Err(Refusal::NotNext),
+            after: OwnClock { preceding, ..clock },
+        },
     }
 }

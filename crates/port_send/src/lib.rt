@@ -10,7 +10,8 @@ ghost use Rattle.port.specs.Send.{echo_tx, echo_rx, frame_of, stretch_of, clock_
 
 use choice::{Candidate, Precedence};
 use frame::{Fields, version};
-use port::{Port, PortDone, Profile, Sender, Sending};
+use port::{Outcome, Port, Profile, Sender};
+use refusals::Refusal;
 use samples::{Pair, Samples};
 use timeline::{Sent, departure};
 use times::{ErrorTime, GrandTime, LocalTime, local};
@@ -19,23 +20,17 @@ use times::{ErrorTime, GrandTime, LocalTime, local};
 const LISTENER_HOP: u8 = 254;
 
 // The neighbour's time in an echo, 0 where there is none.
-fn echo_tx(echo: Pair) -> LocalTime
+fn echo_tx(echo: Option<Pair>) -> LocalTime
     ensures { result ≡ echo_tx echo }
 {
-    match echo {
-        Pair::Unset => LocalTime(0),
-        Pair::Set(there, _) => there,
-    }
+    echo.map_or(LocalTime(0), |pair| pair.there)
 }
 
 // The arrival here in an echo, 0 where there is none.
-fn echo_rx(echo: Pair) -> LocalTime
+fn echo_rx(echo: Option<Pair>) -> LocalTime
     ensures { result ≡ echo_rx echo }
 {
-    match echo {
-        Pair::Unset => LocalTime(0),
-        Pair::Set(_, here) => here,
-    }
+    echo.map_or(LocalTime(0), |pair| pair.here)
 }
 
 // The fields of every frame, whatever it says of a clock.
@@ -45,25 +40,22 @@ fn fields(
     precedence: Precedence,
     hop: u8,
     t: LocalTime,
-    grand: GrandTime,
-    error: ErrorTime,
+    times: Sent,
     port: Port,
 ) -> Fields
-    ensures { result ≡ frame_of sender version precedence hop t grand error port }
+    ensures { result ≡ frame_of sender version precedence hop t times.grand times.error port }
 {
-    let echo = port.echo;
-    let mac = sender.mac;
     Fields {
-        sa: mac,
-        precedence: precedence,
-        hop: hop,
+        sa: sender.mac,
+        precedence,
+        hop,
         count: port.count,
-        grand: grand,
+        grand: times.grand,
         local: t,
-        tx: echo_tx(echo),
-        rx: echo_rx(echo),
-        error: error,
-        version: version,
+        tx: echo_tx(port.echo),
+        rx: echo_rx(port.echo),
+        error: times.error,
+        version,
     }
 }
 
@@ -80,31 +72,21 @@ fn stretch(version: u8, back: u64) -> u64
 
 // A full bridge's frame at t, read off the chosen clock's samples, or 10 to 13.
 fn for_clock(
-    choice: Candidate,
+    choice: Option<Candidate>,
     samples: Samples,
     sender: Sender,
     version: u8,
     t: LocalTime,
     port: Port,
-) -> Sending
+) -> Result<Fields, Refusal>
     requires lawful_samples { LawfulSamples samples }
     requires back_lt_longest_elapsed { sender.back < longest_elapsed }
     ensures { result ≡ clock_sending choice samples sender version t port }
 {
-    match choice {
-        Candidate::Nothing => Sending::Refused(refusals::NO_CLOCK),
-        Candidate::Clock(precedence, hop, _) => {
-            let stretch = stretch(version, sender.back);
-            match departure::sent(samples, t, sender.back, stretch) {
-                Sent::At(grand, error) => {
-                    Sending::Frame(fields(sender, version, precedence, hop, t, grand, error, port))
-                }
-                Sent::Few => Sending::Refused(refusals::FEW_SAMPLES),
-                Sent::Late => Sending::Refused(refusals::TOO_LATE),
-                Sent::Beyond => Sending::Refused(refusals::BEYOND_RANGE),
-            }
-        }
-    }
+    let clock = choice.ok_or(Refusal::NoClock)?;
+    let stretch = stretch(version, sender.back);
+    let times = departure::sent(samples, t, sender.back, stretch)?;
+    Ok(fields(sender, version, clock.precedence, clock.hop, t, times, port))
 }
 
 // The worst precedence: thirteen bytes FF.
@@ -124,68 +106,58 @@ fn worst_precedence() -> Precedence
 fn for_neighbour(sender: Sender, version: u8, t: LocalTime, port: Port) -> Fields
     ensures { result ≡ listener_frame_of sender version t port }
 {
-    let precedence = worst_precedence();
-    fields(
-        sender,
-        version,
-        precedence,
-        LISTENER_HOP,
-        t,
-        GrandTime(0, 0),
-        ErrorTime(0),
-        port,
-    )
+    let times = Sent {
+        grand: GrandTime(0, 0),
+        error: ErrorTime(0),
+    };
+    fields(sender, version, worst_precedence(), LISTENER_HOP, t, times, port)
 }
 
 // The frame that the port sends at t by the station's profile, or 10 to 13.
+#[tactic(auto, unfolding(port::specs::Send::sending_of))]
 fn composed(
-    choice: Candidate,
+    choice: Option<Candidate>,
     samples: Samples,
     sender: Sender,
     version: u8,
     t: LocalTime,
     port: Port,
-) -> Sending
+) -> Result<Fields, Refusal>
     requires lawful_samples { LawfulSamples samples }
     requires back_lt_longest_elapsed { sender.back < longest_elapsed }
     ensures { result ≡ sending_of choice samples sender version t port }
 {
-    let profile = sender.profile;
-    match profile {
+    match sender.profile {
         Profile::Full => for_clock(choice, samples, sender, version, t, port),
-        Profile::Listener => Sending::Frame(for_neighbour(sender, version, t, port)),
+        Profile::Listener => Ok(for_neighbour(sender, version, t, port)),
     }
 }
 
 // Sends at t: the frame fills the output, or the answer is 10 to 13; either way the next frameCount is used up.
 pub fn send(
     port: Port,
-    choice: Candidate,
+    choice: Option<Candidate>,
     samples: Samples,
     sender: Sender,
     version: u8,
     t: LocalTime,
     out: &mut [u8],
-) -> PortDone
+) -> Outcome<Port>
     requires lawful_samples { LawfulSamples samples }
     requires back_lt_longest_elapsed { sender.back < longest_elapsed }
     requires frame_length_in_bounds { frame_length ≤ length out.old }
     ensures value { result ≡ sending_done (sending_of choice samples sender version t port) port }
     ensures out_after { out.new ≡ sending_bytes (sending_of choice samples sender version t port) out.old }
 {
-    let mut answer = refusals::DONE;
-    match composed(choice, samples, sender, version, t, port) {
-        Sending::Refused(refusal) => {
-            answer = refusal;
-        }
-        Sending::Frame(f) => {
-            frame_write::put(f, out);
-        }
+    let composed = composed(choice, samples, sender, version, t, port);
+    if let Ok(f) = composed {
+        frame_write::put(f, out);
     }
-    let mut after = port;
-    after.count = local::next_count(port.count);
-    PortDone {
-        answer: answer,
-        port: after,
+    Outcome {
+        answer: composed.map(|_| ()),
+        after: Port {
+            count: local::next_count(port.count),
+            ..port
+        },
     }
 }
