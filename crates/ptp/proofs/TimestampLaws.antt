@@ -6,16 +6,15 @@ use Prim.Native.Nat.{ℕ, ◌^◌, ◌<◌}
 use native.Mathlib.Omega.{arith}
 use borrow.Author.Tests.{lt-ltb, ltb-true}
 use lib.Dec.{ltb}
-use Rattle.std.proofs.Common.{Ok, Err}
-use Rattle.refusals.specs.declared.Refusal.TheVariants.{OutOfRange}
+use Rattle.std.proofs.Common.{Ok}
 use Rattle.times.specs.Times.{second, InRange}
 use Rattle.times.specs.Parts.{part_of, least_of}
 use Rattle.times.specs.declared.GrandTime.{GrandTime}
 use Rattle.ptp.specs.Timestamp.{billion, nanosecond_of, fraction_of, export_of, import_of}
 use Rattle.ptp.specs.Demands.{Importable, ExportAnswers, ImportAnswers}
 use Rattle.ptp.specs.declared.PtpTime.{PtpTime}
-use Rattle.numbers.proofs.Branches.{if_true, if_false, if_when}
-use Rattle.times.proofs.TestLaws.{both_hold, refuted}
+use Rattle.numbers.proofs.Branches.{if_true, if_when}
+use Rattle.times.proofs.TestLaws.{both_hold}
 use Rattle.times.proofs.PartLaws.{part_common, least_common, part_lt, least_lt}
 
 -- ---- 10^9 = 1,953,125 × 2^9 and 2^40 = 2^31 × 2^9: with 2^9 taken out of both, the products have at most 61 bits
@@ -49,11 +48,6 @@ module _ (g : GrandTime) where
   unfolding export_of
   export_at r e = (λ i. Ok (record { 0 = record { 0 = g.0 }; 1 = e i })) ∙ if_true _ _ _ (both_below _ _ _ _ r.seconds r.fraction)
 
-  pub export_refused : (InRange g → ⊥) → Err OutOfRange ≡ export_of g
-  unfolding export_of
-  export_refused f =
-      if_false _ _ _ (refuted _ (λ e. let k = below_both g.0 second g.1 second e in f (record { seconds = k.0; fraction = k.1 })))
-
   pub export_answers : ExportAnswers g (export_of g)
   unfolding export_of
   export_answers =
@@ -65,11 +59,6 @@ module _ (t : PtpTime) where
   pub import_at : {n : ℕ} → Importable t → n ≡ fraction_of t.1 → Ok (record { 0 = t.0.0; 1 = n }) ≡ import_of t
   unfolding import_of
   import_at r e = (λ i. Ok (record { 0 = t.0.0; 1 = e i })) ∙ if_true _ _ _ (both_below _ _ _ _ r.seconds r.nanosecond)
-
-  pub import_refused : (Importable t → ⊥) → Err OutOfRange ≡ import_of t
-  unfolding import_of
-  import_refused f =
-      if_false _ _ _ (refuted _ (λ e. let k = below_both t.0.0 second t.1 billion e in f (record { seconds = k.0; nanosecond = k.1 })))
 
   pub import_answers : ImportAnswers t (import_of t)
   unfolding import_of
