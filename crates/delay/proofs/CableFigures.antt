@@ -5,12 +5,12 @@ use native.Mathlib.Nat.{mul-le-mul_right, lt_of_mul-lt-mul_right, add-mul-div_ri
 use native.Mathlib.Omega.{arith}
 use lib.Dec.{lit≤}
 use lib.IntN.{pos, nat_abs, sub_ℕ, ◌-ℤ◌}
+use Rattle.std.proofs.Common.{Ok}
 use Rattle.times.specs.Times.{circle, around_of, since_of, earlier_by}
 use Rattle.samples.specs.Rate.{shortest_spread, per_gain, parts}
 use Rattle.delay.specs.Delay.{longest_trip, longest_delay, delay_of}
 use Rattle.delay.specs.Cable.{Cable, Instant, Later, RoundTrip, latch_of, local_time_of, arrival_of, pair_of, local_spread, Rated, that_tx_time_of, that_rx_time_of, Told, trip_of, turn_of, rate_by, delay_by, twice_off, CloserThan}
 use Rattle.delay.specs.declared.DelaySetting.TheVariants.{Measured}
-use Rattle.delay.specs.declared.Delay.TheVariants.{Is}
 use Rattle.numbers.proofs.Ring.{same, minus_is, sub_neg_is, sub_lt, sub_ge2, nat_abs_neg}
 use Rattle.delay.proofs.DelayLaws.{measured_is, delay_heard}
 use Rattle.delay.proofs.Shares.{shares_within, mean_near}
@@ -52,7 +52,7 @@ module _ (c : Cable) (r : RoundTrip c) (e : Instant) (later : Later c e r.answer
 
   -- a cable that is 517 U shorter than the longest delay is measured, and not refused
   pub cable_measured : Told c r → trip_of c r ≤ longest_trip → turn ≤ longest_trip → c.out + c.back ≤ (longest_delay - farthest) * 2 * c.fine
-      → Is ruled ≡ delay_by c r (pair_of c e)
+      → Ok ruled ≡ delay_by c r (pair_of c e)
   cable_measured told trip short cable =
       measured_is (rate_by c r (pair_of c e)) (trip_of c r) turn trip short small
       ∙ delay_heard Measured (rate_by c r (pair_of c e)) (local_time_of c r.answered) (arrival_of c r.answered) (that_tx_time_of c r) (that_rx_time_of c r) refl told
@@ -64,7 +64,7 @@ module _ (c : Cable) (r : RoundTrip c) (e : Instant) (later : Later c e r.answer
           omega (arith, lt_of_mul-lt-mul_right (2 * c.fine) less)
 
   -- a delay that is given is less than 517 U off; less than 6 U where the turn is no longer than the spread, and less than 2 U where it is a usual one besides
-  module _ (told : Told c r) (n : ℕ) (is : Is n ≡ delay_by c r (pair_of c e)) where
+  module _ (told : Told c r) (n : ℕ) (is : Ok n ≡ delay_by c r (pair_of c e)) where
     by : (b : ℕ) → CloserThan c ruled b → CloserThan c n b
     by b = subst (λ (x : ℕ). CloserThan c x b) (sym (given c r n (pair_of c e) told is).0)
 

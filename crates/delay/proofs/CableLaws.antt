@@ -4,17 +4,15 @@ use Prim.Native.Nat.{ℕ, suc, ◌+◌, ◌-◌, ◌*◌, ◌/◌, ◌%◌, ◌<
 use native.Mathlib.Nat.{div-add-mod, mod-lt, mod-mod, mod-eq_of_lt, add-mod, lt_of_mul-lt-mul_left, lt_of_le_of_lt, mul-le-mul_right}
 use native.Mathlib.Omega.{arith}
 use lib.IntN.{ℤ, pos, nat_abs, ◌+ℤ◌, ◌-ℤ◌, ◌*ℤ◌}
+use Rattle.std.proofs.Common.{Option, Some, None, Ok}
 use Rattle.numbers.specs.Whole.{floor_div}
 use Rattle.times.specs.Times.{circle, around_of, since_of}
 use Rattle.times.specs.declared.LocalTime.{LocalTime}
 use Rattle.samples.specs.Rate.{per_gain, parts, Limits, rate_of, scaled_of, rate_within, neighbour_rate_of}
 use Rattle.samples.specs.declared.Pair.{Pair}
-use Rattle.samples.specs.declared.Pair.TheVariants.{Unset, Set}
-use Rattle.samples.specs.declared.Gain.{Gain}
 use Rattle.delay.specs.Delay.{longest_trip, delay_of}
 use Rattle.delay.specs.Cable.{Cable, Instant, Onward, Later, RoundTrip, latch_of, local_time_of, arrival_of, pair_of, local_spread, arrival_spread, Rated, that_tx_time_of, that_rx_time_of, Told, trip_of, turn_of, rate_by, delay_by, NearCable, NearUnrated}
 use Rattle.delay.specs.declared.DelaySetting.TheVariants.{Measured}
-use Rattle.delay.specs.declared.Delay.TheVariants.{Is}
 use Rattle.numbers.proofs.Floor.{floor_near}
 use Rattle.samples.proofs.RateLaws.{gain_within, gain_outside, rate_near}
 use Rattle.delay.proofs.DelayLaws.{measured_tells, delay_heard}
@@ -75,15 +73,15 @@ module _ (local0 p0 local p : LocalTime) where
   abbrev d : ℤ
   d = pos (since_of p p0) -ℤ pos s
 
-  rate_taken : Limits d s → neighbour_rate_of (Set local0 p0) local p ≡ rate_of d s
+  rate_taken : Limits d s → neighbour_rate_of (Some (record { there = local0; here = p0 })) local p ≡ rate_of d s
   unfolding neighbour_rate_of
-  rate_taken limits = ap (λ (g : Gain). rate_within g s) (sym (gain_within (pos (since_of p p0)) s limits))
+  rate_taken limits = ap (λ (g : Option ℤ). rate_within g s) (sym (gain_within (pos (since_of p p0)) s limits))
 
-  pub rate_outside : (Limits d s → ⊥) → neighbour_rate_of (Set local0 p0) local p ≡ pos 0
+  pub rate_outside : (Limits d s → ⊥) → neighbour_rate_of (Some (record { there = local0; here = p0 })) local p ≡ pos 0
   unfolding neighbour_rate_of
-  rate_outside outside = ap (λ (g : Gain). rate_within g s) (sym (gain_outside (pos (since_of p p0)) s outside))
+  rate_outside outside = ap (λ (g : Option ℤ). rate_within g s) (sym (gain_outside (pos (since_of p p0)) s outside))
 
-pub rate_unset : (local p : LocalTime) → neighbour_rate_of Unset local p ≡ pos 0
+pub rate_unset : (local p : LocalTime) → neighbour_rate_of None local p ≡ pos 0
 unfolding neighbour_rate_of
 rate_unset local p = refl
 
@@ -122,7 +120,7 @@ module _ (c : Cable) (r : RoundTrip c) where
   trip_read = stretch_read c r.heard r.answered r.turned (c.out + c.back) r.left arrived r.homeward (omega (arith, r.outward, r.turned.here.after))
 
   -- what a delay that is given tells, whatever the pair
-  pub given : (n : ℕ) (pair : Pair) → Told c r → Is n ≡ delay_by c r pair
+  pub given : (n : ℕ) (pair : Option Pair) → Told c r → Ok n ≡ delay_by c r pair
       → (n ≡ delay_of (rate_by c r pair) (trip_of c r) (turn_of c r)) × (turn_of c r ≤ longest_trip)
   given n pair told e =
       let heard = delay_heard Measured (rate_by c r pair) (local_time_of c r.answered) (arrival_of c r.answered) (that_tx_time_of c r) (that_rx_time_of c r) refl told in
@@ -130,7 +128,7 @@ module _ (c : Cable) (r : RoundTrip c) where
       (k.0, k.1)
 
   -- where the rate is 0, as it is with no stored pair and where the limits do not hold
-  pub unrated_delay : (pair : Pair) → rate_by c r pair ≡ pos 0 → Told c r → (n : ℕ) → Is n ≡ delay_by c r pair → NearUnrated c (turn_of c r) n
+  pub unrated_delay : (pair : Option Pair) → rate_by c r pair ≡ pos 0 → Told c r → (n : ℕ) → Ok n ≡ delay_by c r pair → NearUnrated c (turn_of c r) n
   unrated_delay pair zero told n is =
       rw ((given n pair told is).0, zero)
       (zero_near c.theirs c.ours c.fine (c.out + c.back) (trip_of c r) (turn_of c r) _ _ _ _ c.running trip_read)
@@ -155,7 +153,7 @@ module _ (c : Cable) (r : RoundTrip c) where
         (rated_near c.theirs c.ours c.fine (c.out + c.back) (trip_of c r) (turn_of c r) _ _ _ _ c.running trip_read gone spread _ _ (omega (arith, rated.low)) pair_read)
 
     -- and so is every delay that is given
-    pub cable_delay : Told c r → (n : ℕ) → Is n ≡ delay_by c r (pair_of c e) → NearCable c spread (turn_of c r) n
+    pub cable_delay : Told c r → (n : ℕ) → Ok n ≡ delay_by c r (pair_of c e) → NearCable c spread (turn_of c r) n
     cable_delay told n is = subst (NearCable c spread (turn_of c r)) (sym (given n (pair_of c e) told is).0) rule_near
 
     -- the limits hold of the latched times, and keep the clocks themselves near

@@ -4,12 +4,11 @@ use Prim.Native.Nat.{ℕ, ◌+◌, ◌-◌, ◌*◌, ◌^◌, ◌<◌}
 use native.Mathlib.Omega.{arith}
 use lib.Dec.{lit<, lit≤}
 use lib.IntN.{pos, nat_abs, ◌-ℤ◌}
+use Rattle.std.proofs.Common.{None, Ok}
 use Rattle.times.specs.Times.{circle, since_of}
 use Rattle.samples.specs.Rate.{gain_of, rate_of, scaled_of, neighbour_rate_of}
-use Rattle.samples.specs.declared.Pair.TheVariants.{Unset}
 use Rattle.delay.specs.Delay.{delay_of, measured_of, link_delay_of}
 use Rattle.delay.specs.Cable.{Cable, Instant, Later, RoundTrip, local_time_of, arrival_of, pair_of, local_spread, Rated, that_tx_time_of, that_rx_time_of, Told, turn_of, delay_by, twice_off, whole, latch_share, open_share, rounding_share, floor_share}
-use Rattle.delay.specs.declared.Delay.TheVariants.{Is}
 use Rattle.delay.proofs.CableFigures.{usual-turn, alike_near}
 
 -- ---- a kilometre
@@ -41,7 +40,7 @@ pub kilometre_times : ((that_tx_time_of kilometre wrapped).0 ≡ circle - 600000
 kilometre_times = (refl, refl, refl, refl)
 
 -- the rules give two fifths of a unit less than the cable has; with no stored pair 109,950.6 more, which is the neighbour's 20 ppm over the turn
-pub a_kilometre : (delay_by kilometre wrapped (pair_of kilometre early) ≡ Is 5387607) × (delay_by kilometre wrapped Unset ≡ Is 5497558)
+pub a_kilometre : (delay_by kilometre wrapped (pair_of kilometre early) ≡ Ok 5387607) × (delay_by kilometre wrapped None ≡ Ok 5497558)
 unfolding since_of gain_of rate_of scaled_of neighbour_rate_of delay_of measured_of link_delay_of
 a_kilometre = (refl, refl)
 
@@ -61,7 +60,7 @@ pub record Reached (c : Cable) (r : RoundTrip c) (e : Instant) (n thousandths : 
   pub later : Later c e r.answered
   pub rated : Rated c e r.answered
   pub told : Told c r
-  pub is : delay_by c r (pair_of c e) ≡ Is n
+  pub is : delay_by c r (pair_of c e) ≡ Ok n
   pub off : let s = local_spread c e r.answered in let t = turn_of c r in
       thousandths * (latch_share c s t + open_share c s t + rounding_share c s t + floor_share c s t) * c.fine < 1000 * (twice_off c n * whole c s t)
 

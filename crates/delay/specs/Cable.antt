@@ -1,13 +1,12 @@
 -- The cable: a round trip over it as it happens, the times that latches keep of it, and how far the delay that the rules work out from them may be off.
-use Rattle.std.specs.Prelude.{◌≡◌, ℕ, ◌+◌, ◌-◌, ◌*◌, ◌/◌, ◌%◌, ◌<◌, ◌≤◌, ℤ, pos, nat_abs, ◌-ℤ◌}
+use Rattle.std.specs.Prelude.{◌≡◌, ℕ, ◌+◌, ◌-◌, ◌*◌, ◌/◌, ◌%◌, ◌<◌, ◌≤◌, Option, Some, Result, ℤ, pos, nat_abs, ◌-ℤ◌}
+use Rattle.refusals.specs.declared.Refusal.{Refusal}
 use Rattle.times.specs.Times.{circle, since_of}
 use Rattle.times.specs.declared.LocalTime.{LocalTime}
 use Rattle.samples.specs.Rate.{parts, Limits, neighbour_rate_of}
 use Rattle.samples.specs.declared.Pair.{Pair}
-use Rattle.samples.specs.declared.Pair.TheVariants.{Set}
 use Rattle.delay.specs.Delay.{link_delay_of}
 use Rattle.delay.specs.declared.DelaySetting.TheVariants.{Measured}
-use Rattle.delay.specs.declared.Delay.{Delay}
 
 -- ---- what happens, in exact times: whole numbers of a fine unit, and for any times that are fractions of U there is one fine enough
 
@@ -60,8 +59,8 @@ local_time_of c i = latch_of c i.there
 abbrev pub arrival_of : Cable → Instant → LocalTime
 arrival_of c i = latch_of c (i.here + c.back)
 
-abbrev pub pair_of : Cable → Instant → Pair
-pair_of c i = Set (local_time_of c i) (arrival_of c i)
+abbrev pub pair_of : Cable → Instant → Option Pair
+pair_of c i = Some (record { there = local_time_of c i; here = arrival_of c i })
 
 -- the spread of localTime, and that of p, from a frame that left there at a to one that left at b
 abbrev pub local_spread : Cable → Instant → Instant → ℕ
@@ -95,10 +94,10 @@ module _ (c : Cable) (r : RoundTrip c) where
   turn_of = since_of (local_time_of c r.answered) that_rx_time_of
 
   -- the rate, and the link delay, by the rules, with a stored pair
-  abbrev pub rate_by : Pair → ℤ
+  abbrev pub rate_by : Option Pair → ℤ
   rate_by pair = neighbour_rate_of pair (local_time_of c r.answered) (arrival_of c r.answered)
 
-  abbrev pub delay_by : Pair → Delay
+  abbrev pub delay_by : Option Pair → Result ℕ Refusal
   delay_by pair = link_delay_of Measured (rate_by pair) (local_time_of c r.answered) (arrival_of c r.answered) that_tx_time_of that_rx_time_of
 
 -- ---- how far a delay is off

@@ -5,6 +5,7 @@ ghost use Rattle.std.specs.Prelude.{◌≡◌, ◌≤◌, nat_abs};
 ghost use Rattle.samples.specs.Rate.{neighbour_rate_of, steepest};
 ghost use Rattle.delay.specs.Delay.{longest_trip, delay_of, measured_of, link_delay_of};
 
+use refusals::Refusal;
 use samples::Pair;
 use times::{LocalTime, local};
 
@@ -13,13 +14,6 @@ use times::{LocalTime, local};
 pub enum DelaySetting {
     Measured,
     Fixed(u64),
-}
-
-// A link delay, or that what was measured is too long to be one.
-#[derive(Clone, Copy)]
-pub enum Delay {
-    Is(u64),
-    TooLong,
 }
 
 // The longest round trip and turn, and the longest delay.
@@ -41,47 +35,40 @@ pub fn half_trip(rate: i64, trip: u64, turn: u64) -> u64
 }
 
 // The measured delay, unless a part of it is too long.
-pub fn measured_delay(rate: i64, trip: u64, turn: u64) -> Delay
+pub fn measured_delay(rate: i64, trip: u64, turn: u64) -> Result<u64, Refusal>
     requires { nat_abs rate ≤ steepest }
     ensures { result ≡ measured_of rate trip turn }
 {
-    if LONGEST_TRIP < trip {
-        return Delay::TooLong;
-    }
-    if LONGEST_TRIP < turn {
-        return Delay::TooLong;
+    if LONGEST_TRIP < trip || LONGEST_TRIP < turn {
+        return Err(Refusal::DelayTooLong);
     }
     let delay = half_trip(rate, trip, turn);
     if LONGEST_DELAY < delay {
-        return Delay::TooLong;
+        Err(Refusal::DelayTooLong)
+    } else {
+        Ok(delay)
     }
-    Delay::Is(delay)
 }
 
 // The link delay by the port's setting, for a frame with these times whose preceding one arrived at p.
+#[tactic(auto, unfolding(crate::specs::Delay::link_delay_of))]
 pub fn link_delay(
     setting: DelaySetting,
-    pair: Pair,
+    pair: Option<Pair>,
     local: LocalTime,
     p: LocalTime,
     tx: LocalTime,
     rx: LocalTime,
-) -> Delay
+) -> Result<u64, Refusal>
     ensures { result ≡ link_delay_of setting (neighbour_rate_of pair local p) local p tx rx }
 {
     match setting {
-        DelaySetting::Fixed(delay) => Delay::Is(delay),
-        DelaySetting::Measured => {
-            if tx.0 == 0 {
-                if rx.0 == 0 {
-                    return Delay::Is(0);
-                }
-            }
-            measured_delay(
-                samples_rate::neighbour_rate(pair, local, p),
-                local::since(p, tx),
-                local::since(local, rx),
-            )
-        }
+        DelaySetting::Fixed(delay) => Ok(delay),
+        DelaySetting::Measured if tx.0 == 0 && rx.0 == 0 => Ok(0),
+        DelaySetting::Measured => measured_delay(
+            samples_rate::neighbour_rate(pair, local, p),
+            local::since(p, tx),
+            local::since(local, rx),
+        ),
     }
 }
