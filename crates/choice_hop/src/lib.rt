@@ -8,11 +8,11 @@ ghost use Rattle.choice.specs.Hop.{last_hop, jump_of, hop_of};
 pub const LAST_HOP: u8 = 255;
 
 // The jump of a frame with hop h from beyond the chosen clock: half way to the last hop, and never less than a single step.
+#[tactic(auto, unfolding(choice::specs::Hop::jump_of))]
 pub fn jump(h: u8) -> u8
     ensures { result ≡ jump_of h }
 {
-    let half = (LAST_HOP - h) / 2;
-    if half < 1 { 1 } else { half }
+    ((LAST_HOP - h) / 2).max(1)
 }
 
 // The held hop of a frame with hop h, where the chosen clock's is `chosen`.

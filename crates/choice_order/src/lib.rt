@@ -17,46 +17,29 @@ const VARIANCE_WEIGHT: u64 = 0x100;
 pub fn high(p: Precedence) -> u64
     ensures { result ≡ high_of p }
 {
-    p.priority1 as u64 * PRIORITY1_WEIGHT
-        + p.source as u64 * SOURCE_WEIGHT
-        + p.variance as u64 * VARIANCE_WEIGHT
-        + p.priority2 as u64
+    u64::from(p.priority1) * PRIORITY1_WEIGHT
+        + u64::from(p.source) * SOURCE_WEIGHT
+        + u64::from(p.variance) * VARIANCE_WEIGHT
+        + u64::from(p.priority2)
 }
 
 // Whether p is less than q.
 pub fn precedes(p: Precedence, q: Precedence) -> bool
     ensures { result ≡ ltb (precedence_of p) (precedence_of q) }
 {
-    let a = high(p);
-    let b = high(q);
-    if a < b {
-        return true;
-    }
-    if b < a {
-        return false;
-    }
-    p.clock < q.clock
+    p < q
 }
 
 // Whether p equals q.
 pub fn equals(p: Precedence, q: Precedence) -> bool
     ensures { result ≡ eqb (precedence_of p) (precedence_of q) }
 {
-    if high(p) == high(q) {
-        return p.clock == q.clock;
-    }
-    false
+    p == q
 }
 
 // Whether the key of p at hop h is less than that of q at hop k.
 pub fn key_precedes(p: Precedence, h: u8, q: Precedence, k: u8) -> bool
     ensures { result ≡ ltb (key_of p h) (key_of q k) }
 {
-    if precedes(p, q) {
-        return true;
-    }
-    if precedes(q, p) {
-        return false;
-    }
-    h < k
+    (p, h) < (q, k)
 }
