@@ -5,7 +5,8 @@ use mathlib.Core.Logic.{⊎_elim}
 use Prim.Native.Nat.{ℕ, ◌-◌, ◌<◌, ◌≤◌}
 use native.Mathlib.Omega.{arith}
 use borrow.Author.Tests.{eqb-true}
-use Rattle.choice.specs.declared.Announcement.TheVariants.{Silent}
+use Rattle.std.proofs.Common.{None, Err}
+use Rattle.refusals.specs.declared.Refusal.TheVariants.{WrongLength}
 use Rattle.frame.specs.Read.{read_refusal, read_of}
 use Rattle.bridge.specs.Table.{port_at, most_ports, loses_link}
 use Rattle.bridge.specs.Arguments.{mask_beyond}
@@ -15,6 +16,7 @@ use Rattle.bridge.specs.declared.Setup.{Setup}
 use Rattle.bridge.specs.declared.Bridge.{Bridge}
 use Rattle.numbers.proofs.Branches.{if_when}
 use Rattle.bridge.proofs.Records.{after_alike}
+use Rattle.bridge.proofs.CheckLaws.{number_granted}
 use Rattle.bridge.proofs.Heard.{took}
 use Rattle.bridge.proofs.Hops.{Announces, run_announces}
 
@@ -28,7 +30,7 @@ module _ (i : ℕ) where
   taken_not b (receive port frame bytes arrival) l =
       if_when (λ (x : List (List ℕ)). x ≡ []) _
       (λ q. if_when (λ (x : List (List ℕ)). x ≡ []) _
-      (λ s. let ready = (took b port frame arrival (eqb-true _ _ q)).ready in absurd (omega (arith, ready.low, ready.high, eqb-true (port - 1) i s)))
+      (λ s. let ready = (took b port frame arrival (number_granted (eqb-true _ _ q))).ready in absurd (omega (arith, ready.low, ready.high, eqb-true (port - 1) i s)))
       (λ _. refl))
       (λ _. refl)
   taken_not b (age at) l = refl
@@ -43,9 +45,9 @@ module _ (i : ℕ) where
       ∙ taken_never (after b c) cs (subst (λ (s : Setup). s.n ≤ i) (sym (after_alike b c).0) l)
 
   -- so it never announces one
-  pub beyond_silent : (s : Setup) (cs : List Call) → (setup_of s).next.setup.n ≤ i → i < most_ports → (port_at (run (setup_of s).next cs).ports i).announcement ≡ Silent
+  pub beyond_silent : (s : Setup) (cs : List Call) → (setup_of s).next.setup.n ≤ i → i < most_ports → (port_at (run (setup_of s).next cs).ports i).announcement ≡ None
   unfolding read_of read_refusal
   beyond_silent s cs l h =
       ⊎_elim (λ silent. silent)
-      (λ above. let clash : ◌≡◌ {A = ℕ} 0 1 = let unread = above.read in cc in absurd (omega arith))
+      (λ above. let unread = above.read in cc)
       (subst (λ (x : List (List ℕ)). Announces (last_of x) (port_at (run (setup_of s).next cs).ports i).announcement) (taken_never (setup_of s).next cs l) (run_announces s cs i h))

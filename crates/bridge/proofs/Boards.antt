@@ -4,17 +4,18 @@ use mathlib.Core.List.{List, [], ◌∷◌, ◌++◌, Memᴰ}
 use Prim.Native.Nat.{ℕ, zero, suc, ◌+◌, ◌-◌, ◌<◌, ◌≤◌}
 use native.Mathlib.Omega.{arith}
 use lib.ListN.{length}
+use Rattle.std.specs.Prelude.{⊤}
+use Rattle.std.proofs.Common.{Option, Some, None, Result, Ok, Err}
+use Rattle.refusals.specs.Answer.{answer_number, granted}
+use Rattle.refusals.specs.declared.Refusal.{Refusal}
 use Rattle.choice.specs.Choose.{candidate_of, better_of, best_of, chosen_hop}
 use Rattle.choice.specs.Permutation.{Permutation}
 use Rattle.choice.specs.Compare.{Comparison, compared_in}
 use Rattle.choice.specs.declared.Candidate.{Candidate}
-use Rattle.choice.specs.declared.Candidate.TheVariants.{Nothing}
 use Rattle.frame.specs.Read.{read_of}
 use Rattle.frame.specs.declared.Fields.{Fields}
-use Rattle.frame.specs.declared.Reading.TheVariants.{Frame}
 use Rattle.port.specs.Receive.{received_of}
 use Rattle.port.specs.Send.{sending_of, sending_done, sending_bytes}
-use Rattle.port.specs.declared.Sending.{Sending}
 use Rattle.bridge.specs.Table.{port_at, most_ports, samples_of_choice}
 use Rattle.bridge.specs.Arguments.{port_refusal, send_refusal}
 use Rattle.bridge.specs.State.{version_at, TypedSetup, Lawful, stores_port}
@@ -37,24 +38,24 @@ use Rattle.bridge.proofs.Beyond.{beyond_silent}
 
 -- ---- what a call makes of the choice that it is given
 
-module _ (choice : Candidate) (b : Bridge) where
+module _ (choice : Option Candidate) (b : Bridge) where
   -- Receive: a frame that is read is held by this choice's H
-  pub received_by : (port : ℕ) (frame : List ℕ) (arrival : ℕ) (f : Fields) → port_refusal b.setup.n b.links port arrival ≡ 0 → read_of frame ≡ Frame f
+  pub received_by : (port : ℕ) (frame : List ℕ) (arrival : ℕ) (f : Fields) → port_refusal b.setup.n b.links port arrival ≡ granted → read_of frame ≡ Ok f
       → receive_by choice b port frame arrival
       ≡ stores_port b (port - 1) (received_of (setting_at b (port - 1)) (chosen_hop choice) f (record { 0 = arrival }) (port_at b.ports (port - 1)))
   unfolding receive_fields_of
   received_by port frame arrival f clear read = rw (clear, read) refl
 
   -- Send: what is sent is for this choice, by its samples
-  abbrev sent : ℕ → ℕ → Sending
+  abbrev sent : ℕ → ℕ → Result Fields Refusal
   sent i t = sending_of choice (samples_of_choice choice b.clock b.ports) b.setup.sender (version_at b i) (record { 0 = t }) (port_at b.ports i)
 
-  pub sent_by : (port t room : ℕ) → send_refusal b.setup.n b.links port t room ≡ 0
+  pub sent_by : (port t room : ℕ) → send_refusal b.setup.n b.links port t room ≡ granted
       → send_by_of choice b port t room ≡ stores_port b (port - 1) (sending_done (sent (port - 1) t) (port_at b.ports (port - 1)))
   unfolding sending_at
   sent_by port t room clear = rw clear refl
 
-  pub bytes_by : (port t : ℕ) (out : List ℕ) → send_refusal b.setup.n b.links port t (length out) ≡ 0
+  pub bytes_by : (port t : ℕ) (out : List ℕ) → send_refusal b.setup.n b.links port t (length out) ≡ granted
       → send_bytes_by choice b port t out ≡ sending_bytes (sent (port - 1) t) out
   unfolding sending_at
   bytes_by port t out clear = rw clear refl
@@ -63,11 +64,11 @@ module _ (choice : Candidate) (b : Bridge) where
 
 module _ (b : Bridge) (lawful : Lawful b) where
   -- for every order of the candidates
-  pub chosen_permuted : (l : List Candidate) → Permutation (candidates b) l → best_of Nothing l ≡ chosen_of b
+  pub chosen_permuted : (l : List (Option Candidate)) → Permutation (candidates b) l → best_of None l ≡ chosen_of b
   chosen_permuted l p = sym (best_permuted (candidates b) l (candidates_fit b lawful) p) ∙ chosen_best b
 
   -- for two parts of them by themselves, and then the better of the two bests
-  pub chosen_parts : (l k : List Candidate) → Permutation (candidates b) (l ++ k) → better_of (best_of Nothing l) (best_of Nothing k) ≡ chosen_of b
+  pub chosen_parts : (l k : List (Option Candidate)) → Permutation (candidates b) (l ++ k) → better_of (best_of None l) (best_of None k) ≡ chosen_of b
   chosen_parts l k p = best_parts l k (λ x m. candidates_fit b lawful x (members_back p m)) ∙ chosen_permuted (l ++ k) p
 
   module _ (board : Comparison ℕ) (goes : GoesThrough board b) where
@@ -75,30 +76,30 @@ module _ (b : Bridge) (lawful : Lawful b) where
     pub chosen_same : chosen_on board b ≡ chosen_of b
     chosen_same =
         any_way (candidate_under_of b) (numbers_to most_ports) board (numbered_fits b lawful) goes
-        ∙ ap (best_of Nothing) (sym (candidates_numbered b lawful.records))
+        ∙ ap (best_of None) (sym (candidates_numbered b lawful.records))
         ∙ chosen_best b
 
     -- Receive, whose H it is
     pub receive_same : (port : ℕ) (frame : List ℕ) (arrival : ℕ) → receive_by (chosen_on board b) b port frame arrival ≡ receive_of b port frame arrival
     unfolding receive_of
-    receive_same port frame arrival = ap (λ (c : Candidate). receive_by c b port frame arrival) chosen_same
+    receive_same port frame arrival = ap (λ (c : Option Candidate). receive_by c b port frame arrival) chosen_same
 
     -- Send, with every byte of the output
     pub send_same : (port t room : ℕ) → send_by_of (chosen_on board b) b port t room ≡ send_of b port t room
     unfolding send_of
-    send_same port t room = ap (λ (c : Candidate). send_by_of c b port t room) chosen_same
+    send_same port t room = ap (λ (c : Option Candidate). send_by_of c b port t room) chosen_same
 
     pub bytes_same : (port t : ℕ) (out : List ℕ) → send_bytes_by (chosen_on board b) b port t out ≡ send_bytes b port t out
     unfolding send_bytes
-    bytes_same port t out = ap (λ (c : Candidate). send_bytes_by c b port t out) chosen_same
+    bytes_same port t out = ap (λ (c : Option Candidate). send_bytes_by c b port t out) chosen_same
 
     -- and the state after any call
     after_same : (c : Call) → after_on board b c ≡ after b c
     after_same (links mask) = refl
     after_same (own_clock count byte seconds fraction at) = refl
-    after_same (receive port frame bytes arrival) = ap (λ (d : Done). d.next) (receive_same port frame arrival)
+    after_same (receive port frame bytes arrival) = ap (λ (d : Done ⊤). d.next) (receive_same port frame arrival)
     after_same (age at) = refl
-    after_same (send port t room) = ap (λ (d : Done). d.next) (send_same port t room)
+    after_same (send port t room) = ap (λ (d : Done ⊤). d.next) (send_same port t room)
 
 -- ---- from Setup on, on a board that compares the own clock and the station's ports, each once
 
@@ -124,7 +125,7 @@ module _ (s : Setup) (board : Comparison ℕ) (each : Permutation (numbers_to (s
       λ i. 0 ∷ (sym (numbers_parts n 1 (most_ports - n)) ∙ ap (numbers_from_of 1) all) i
 
   -- none of them has a candidate
-  none_beyond : (cs : List Call) (number : ℕ) → Memᴰ number beyond → candidate_under_of (run fresh cs) number ≡ Nothing
+  none_beyond : (cs : List Call) (number : ℕ) → Memᴰ number beyond → candidate_under_of (run fresh cs) number ≡ None
   unfolding candidate_under_of candidate_of
   none_beyond cs zero m = absurd (omega (arith, numbers-from _ _ m))
   none_beyond cs (suc i) m =

@@ -8,11 +8,14 @@ use borrow.Author.Tests.{eqb-true, eqb-false}
 use lib.Dec.{eqb, leb}
 use lib.ListN.{length, set}
 use lib.Seq.{get_or-set_same, get_or-set_other}
+use Rattle.std.specs.Prelude.{⊤}
+use Rattle.std.proofs.Common.{Option, Some, None, Result, Ok, Err}
+use Rattle.refusals.specs.Answer.{answer_number, granted}
+use Rattle.refusals.specs.declared.Refusal.{Refusal}
 use Rattle.numbers.specs.Bytes.{number_at}
 use Rattle.times.specs.Times.{circle}
 use Rattle.frame.specs.Read.{read_of}
-use Rattle.frame.specs.declared.Reading.{Reading}
-use Rattle.frame.specs.declared.Reading.TheVariants as Readings
+use Rattle.frame.specs.declared.Fields.{Fields}
 use Rattle.port.specs.Record.{empty_port, aged_port, used_port}
 use Rattle.port.specs.declared.Port.{Port}
 use Rattle.bridge.specs.Table.{port_at, most_ports, relinked_port}
@@ -28,10 +31,10 @@ use Rattle.bridge.specs.Demands.{Call, links, own_clock, receive, age, send, aft
 use Rattle.bridge.specs.Chosen.{chosen_of}
 use Rattle.bridge.specs.declared.Bridge.{Bridge}
 use Rattle.bridge.specs.declared.Done.{Done}
-use Rattle.bridge.specs.declared.Linked.{Linked}
 use Rattle.numbers.proofs.Branches.{if_when, if_both}
 use Rattle.port.proofs.PortLaws.{received_count, aged_count}
 use Rattle.bridge.proofs.Records.{replaced, each_record, eight_ports, record_run}
+use Rattle.bridge.proofs.CheckLaws.{granted_when, granted_both}
 use Rattle.bridge.proofs.Sent.{wrote, wrote_count}
 
 -- ---- what each call leaves of the next frameCount
@@ -44,25 +47,25 @@ module _ (b : Bridge) (i n : ℕ) (h : i < length b.ports) (u : (port_at b.ports
   links_count : (mask : ℕ) → (port_at (links_of b mask).next.ports i).count ≡ used_by i b (links mask) n % 256
   unfolding links_of relinked_port
   links_count mask =
-      if_both (λ (d : Linked) (m : ℕ). (port_at d.next.ports i).count ≡ m % 256) (mask_beyond b.setup.n mask) (λ _. u)
+      if_both (λ (d : Done ℕ) (m : ℕ). (port_at d.next.ports i).count ≡ m % 256) (mask_beyond b.setup.n mask) (λ _. u)
       (λ _. ap count_of (each_record (relinked_port b.links mask) b.ports i h)
       ∙ if_both (λ (p : Port) (m : ℕ). p.count ≡ m % 256) (eqb (bit b.links i) 1 && eqb (bit mask i) 0) (λ _. refl) (λ _. u))
 
   receive_count : (port : ℕ) (frame : List ℕ) (arrival : ℕ) → (port_at (receive_of b port frame arrival).next.ports i).count ≡ n % 256
   unfolding receive_of receive_fields_of
   receive_count port frame arrival =
-      if_when (λ (d : Done). (port_at d.next.ports i).count ≡ n % 256) (eqb (port_refusal b.setup.n b.links port arrival) 0) (λ _. by (read_of frame)) (λ _. u)
+      granted_when (λ (d : Done ⊤). (port_at d.next.ports i).count ≡ n % 256) (port_refusal b.setup.n b.links port arrival) (λ _. by (read_of frame)) (λ _ _. u)
     where
-      by : (r : Reading) → (port_at (read_by (chosen_of b) b (port - 1) r (record { 0 = arrival })).next.ports i).count ≡ n % 256
-      by (Readings.Refused k) = u
-      by (Readings.Frame f) = replaced count_of b.ports (port - 1) _ (received_count _ _ f _ (port_at b.ports (port - 1))) i ∙ u
+      by : (r : Result Fields Refusal) → (port_at (read_by (chosen_of b) b (port - 1) r (record { 0 = arrival })).next.ports i).count ≡ n % 256
+      by (Err k) = u
+      by (Ok f) = replaced count_of b.ports (port - 1) _ (received_count _ _ f _ (port_at b.ports (port - 1))) i ∙ u
 
   send_count : (port t room : ℕ) → (port_at (send_of b port t room).next.ports i).count ≡ used_by i b (send port t room) n % 256
   unfolding send_of
   send_count port t room =
-      if_both (λ (d : Done) (m : ℕ). (port_at d.next.ports i).count ≡ m % 256) (eqb (send_refusal b.setup.n b.links port t room) 0)
+      granted_both (λ (d : Done ⊤) (m : ℕ). (port_at d.next.ports i).count ≡ m % 256) (send_refusal b.setup.n b.links port t room)
       (λ _. by (eqb (port - 1) i) refl)
-      (λ _. u)
+      (λ _ _. u)
     where
       by : (s : Bool) → eqb (port - 1) i ≡ s → (port_at (set b.ports (port - 1) (used_port (port_at b.ports (port - 1)))) i).count ≡ cond s (n + 1) n % 256
       by true q =
@@ -75,10 +78,10 @@ module _ (b : Bridge) (i n : ℕ) (h : i < length b.ports) (u : (port_at b.ports
   unfolding own_clock_of age_of
   after_count (links mask) = links_count mask
   after_count (own_clock count byte seconds fraction at) =
-      if_when (λ (d : Done). (port_at d.next.ports i).count ≡ n % 256) (eqb (own_clock_refusal b.setup.capable seconds fraction at) 0) (λ _. u) (λ _. u)
+      granted_when (λ (d : Done ⊤). (port_at d.next.ports i).count ≡ n % 256) (own_clock_refusal b.setup.capable seconds fraction at) (λ _. u) (λ _ _. u)
   after_count (receive port frame bytes arrival) = receive_count port frame arrival
   after_count (age at) =
-      if_when (λ (d : Done). (port_at d.next.ports i).count ≡ n % 256) (leb circle at) (λ _. u)
+      if_when (λ (d : Done ⊤). (port_at d.next.ports i).count ≡ n % 256) (leb circle at) (λ _. u)
       (λ _. ap count_of (each_record (λ _. aged_port (record { 0 = at }) b.setup.timeout) b.ports i h)
       ∙ aged_count (record { 0 = at }) b.setup.timeout (port_at b.ports i)
       ∙ u)
@@ -89,7 +92,7 @@ module _ (b : Bridge) (i n : ℕ) (h : i < length b.ports) (u : (port_at b.ports
 -- the frameCount of every frame that is sent after any calls since Setup
 pub sent_count : (s : Setup) (cs : List Call) (port t : ℕ) (out : List ℕ)
     → let b = (setup_of s).next in
-    (send_of (run b cs) port t (length out)).answer ≡ 0 → number_at (send_bytes (run b cs) port t out) 30 1 ≡ used (port - 1) b cs 0 % 256
+    (send_of (run b cs) port t (length out)).answer ≡ granted → number_at (send_bytes (run b cs) port t out) 30 1 ≡ used (port - 1) b cs 0 % 256
 sent_count s cs port t out e =
     let b = (setup_of s).next in
     let i = port - 1 in

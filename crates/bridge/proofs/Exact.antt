@@ -4,10 +4,10 @@ use Prim.Native.Nat.{ℕ}
 use native.Mathlib.Omega.{arith}
 use lib.Dec.{ltb}
 use lib.Ieee.{Float}
+use Rattle.std.proofs.Common.{Option, Some, None}
 use Rattle.samples.specs.Keep.{ends_of, rate_between}
 use Rattle.samples.specs.declared.Samples.{Samples}
 use Rattle.samples.specs.declared.Ends.{Ends}
-use Rattle.samples.specs.declared.Ends.TheVariants.{Few, Both}
 use Rattle.timeline.specs.Drift.{ppm_of, drift_through_of, drift_of}
 use Rattle.timeline.specs.declared.Drift.{Drift}
 use Rattle.timeline.specs.declared.Drift.TheVariants.{PartsPerMillion}
@@ -25,20 +25,20 @@ pub drift_exact : (b : Bridge) (port : ℕ) (x : Float) → Lawful b → drift_a
 unfolding drift_at drift_of
 drift_exact b port x h =
     if_when (λ (d : Drift). d ≡ PartsPerMillion x → ExactDrift b port x) (ltb b.setup.n port)
-    (λ _ e. let z : ◌≡◌ {A = ℕ} 0 1 = cc in absurd (omega arith))
+    (λ _ e. cc)
     (λ _. by (ends_of samples) refl)
   where
     samples : Samples
     samples = samples_at port b.clock b.ports
 
-    by : (e : Ends) → ends_of samples ≡ e → drift_through_of e ≡ PartsPerMillion x → ExactDrift b port x
-    by Few q e = let z : ◌≡◌ {A = ℕ} 0 1 = cc in absurd (omega arith)
-    by (Both older newer) q e =
-        let same : ppm_of (rate_between older newer) ≡ x = cc in
-        let lawful = ends_lawful samples older newer (samples_lawful port b.clock b.ports h.clock_lawful h.ports_lawful) q in
+    by : (e : Option Ends) → ends_of samples ≡ e → drift_through_of e ≡ PartsPerMillion x → ExactDrift b port x
+    by None q e = cc
+    by (Some ends) q e =
+        let rate = rate_between ends.oldest ends.newest in
+        let same : ppm_of rate ≡ x = cc in
+        let lawful = ends_lawful samples ends (samples_lawful port b.clock b.ports h.clock_lawful h.ports_lawful) q in
         record {
-          older = older;
-          newer = newer;
+          ends = ends;
           kept = q;
-          exact = rw same at (ppm_exact (rate_between older newer) (between_small older newer lawful));
+          exact = rw same at (ppm_exact rate (between_small ends.oldest ends.newest lawful));
         }

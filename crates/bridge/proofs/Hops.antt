@@ -6,20 +6,21 @@ use mathlib.Core.Logic.{◌⊎◌, inl, inr, ⊎_elim}
 use Prim.Native.Nat.{ℕ, suc, ◌-◌, ◌<◌}
 use native.Mathlib.Omega.{arith}
 use lib.ListN.{length, take}
+use Rattle.std.specs.Prelude.{⊤}
+use Rattle.std.proofs.Common.{Option, Some, None, Result, Ok, Err}
+use Rattle.refusals.specs.Answer.{answer_number, granted}
+use Rattle.refusals.specs.declared.Refusal.{Refusal}
 use Rattle.numbers.specs.Bytes.{Bytes}
-use Rattle.refusals.specs.Refusals.{last_hop_heard}
+use Rattle.refusals.specs.declared.Refusal.TheVariants.{LastHopHeard}
 use Rattle.times.specs.declared.LocalTime.{LocalTime}
 use Rattle.choice.specs.Hop.{last_hop, hop_of}
 use Rattle.choice.specs.declared.Announcement.{Announcement}
-use Rattle.choice.specs.declared.Announcement.TheVariants.{Silent}
 use Rattle.choice.specs.Precedence.{precedence_of}
 use Rattle.choice.specs.declared.Precedence.{Precedence}
 use Rattle.choice.specs.declared.Candidate.{Candidate}
-use Rattle.choice.specs.declared.Candidate.TheVariants.{Nothing, Clock}
 use Rattle.frame.specs.Frame.{frame_length}
 use Rattle.frame.specs.Read.{read_of}
 use Rattle.frame.specs.declared.Fields.{Fields}
-use Rattle.frame.specs.declared.Reading.TheVariants as Readings
 use Rattle.port.specs.Receive.{received_of}
 use Rattle.port.specs.declared.Setting.{Setting}
 use Rattle.port.specs.declared.Port.{Port}
@@ -48,10 +49,10 @@ use Rattle.bridge.proofs.Least.{chosen_announced}
 -- ---- a frame that is taken
 
 -- a record that took a frame announces the frame's clock above its hop
-held_above : (frame : List ℕ) (f : Fields) (setting : Setting) (chosen : ℕ) (at : LocalTime) (port : Port) → Bytes frame → read_of frame ≡ Readings.Frame f
-    → (received_of setting chosen f at port).answer ≡ 0 → HeldAbove frame (received_of setting chosen f at port).port.announcement
+held_above : (frame : List ℕ) (f : Fields) (setting : Setting) (chosen : ℕ) (at : LocalTime) (port : Port) → Bytes frame → read_of frame ≡ Ok f
+    → (received_of setting chosen f at port).answer ≡ granted → HeldAbove frame (received_of setting chosen f at port).after.announcement
 held_above frame f setting chosen at port bytes read e =
-    let announces = received_announces setting chosen f at port e in
+    let announces = received_announces setting chosen f at port (ap answer_number e) in
     record {
       fields = f;
       read = read;
@@ -63,7 +64,7 @@ held_above frame f setting chosen at port bytes read e =
     }
 
 -- every frame that is taken is held above its hop, and at the last at most
-pub taken_rises : (b : Bridge) (port : ℕ) (frame : List ℕ) (arrival : ℕ) → Lawful b → Bytes frame → (receive_of b port frame arrival).answer ≡ 0
+pub taken_rises : (b : Bridge) (port : ℕ) (frame : List ℕ) (arrival : ℕ) → Lawful b → Bytes frame → (receive_of b port frame arrival).answer ≡ granted
     → HeldAbove frame (port_at (receive_of b port frame arrival).next.ports (port - 1)).announcement
 taken_rises b port frame arrival h bytes e =
     let t = took b port frame arrival e in
@@ -71,28 +72,29 @@ taken_rises b port frame arrival h bytes e =
     (held_above frame t.fields _ _ (record { 0 = arrival }) _ bytes t.read t.done)
 
 -- a frame with the last hop goes no farther: every station that reads it, at a port with a link and a local time in range, refuses it with 7
-pub last_hop_refused : (b : Bridge) (port : ℕ) (frame : List ℕ) (arrival : ℕ) (f : Fields) → read_of frame ≡ Readings.Frame f → hop_at frame ≡ last_hop
-    → port_refusal b.setup.n b.links port arrival ≡ 0 → receive_of b port frame arrival ≡ refused_last_hop b port f.count arrival
+pub last_hop_refused : (b : Bridge) (port : ℕ) (frame : List ℕ) (arrival : ℕ) (f : Fields) → read_of frame ≡ Ok f → hop_at frame ≡ last_hop
+    → port_refusal b.setup.n b.links port arrival ≡ granted → receive_of b port frame arrival ≡ refused_last_hop b port f.count arrival
 last_hop_refused b port frame arrival f read last clear =
-    sym (receive_read b port frame arrival 0 (sym clear) (Readings.Frame f) refl (sym read))
+    sym (receive_read b port frame arrival (Ok f) (sym clear) (sym read))
     ∙ sym (receive_stores b (port - 1) f (record { 0 = arrival }))
     ∙ ap (stores_port b (port - 1)) (sym (received_last_hop _ _ f (record { 0 = arrival }) _ (hop_number frame f read ∙ last)))
 
 -- Send here and Receive there: where Send answers 0 for a clock that is held at the last hop, the neighbour refuses these 64 bytes with 7
-pub sent_last_hop_refused : (b : Bridge) (port t : ℕ) (out : List ℕ) (there : Bridge) (at arrival : ℕ) {p : Precedence} {n : ℕ}
-    → Lawful b → FullBridge b → chosen_of b ≡ Clock p last_hop n → (send_of b port t (length out)).answer ≡ 0 → port_refusal there.setup.n there.links at arrival ≡ 0
+pub sent_last_hop_refused : (b : Bridge) (port t : ℕ) (out : List ℕ) (there : Bridge) (at arrival : ℕ) {c : Candidate}
+    → Lawful b → FullBridge b → chosen_of b ≡ Some c → c.hop ≡ last_hop → (send_of b port t (length out)).answer ≡ granted → port_refusal there.setup.n there.links at arrival ≡ granted
     → receive_of there at (take frame_length (send_bytes b port t out)) arrival ≡ refused_last_hop there at (port_at b.ports (port - 1)).count arrival
-sent_last_hop_refused b port t out there at arrival {p} {n} h full c e clear =
+sent_last_hop_refused b port t out there at arrival {c} h full chosen hop e clear =
     let r = sent_frame_read b port t out h e full in
-    let both : Clock r.precedence r.hop r.number ≡ Clock p last_hop n = sym r.chosen ∙ c in
-    let last : r.hop ≡ last_hop = cc in
+    let both : Some r.clock ≡ Some c = sym r.chosen ∙ chosen in
+    let same : r.clock ≡ c = cc in
+    let last : r.clock.hop ≡ last_hop = ap (λ (x : Candidate). x.hop) same ∙ hop in
     last_hop_refused there at (take frame_length (send_bytes b port t out)) arrival _ r.read (sym (hop_number _ _ r.read) ∙ last) clear
 
 -- ---- from Setup on
 
 -- what a port announces is the frame that it took last, or nothing
-abbrev pub Announces : List ℕ → Announcement → Type 0
-Announces last announcement = (announcement ≡ Silent) ⊎ HeldAbove last announcement
+abbrev pub Announces : List ℕ → Option Announcement → Type 0
+Announces last announcement = (announcement ≡ None) ⊎ HeldAbove last announcement
 
 -- after any calls, what a port announces is the frame that it took last, held above that frame's hop
 pub run_announces : (s : Setup) (cs : List Call) (i : ℕ) → i < most_ports
@@ -111,7 +113,7 @@ run_announces s cs i h =
 pub passed_on : (s : Setup) (cs : List Call) (port t : ℕ) (out : List ℕ)
     → let b = run (setup_of s).next cs in
     let heard = last_taken (number_of (chosen_of b) - 1) (setup_of s).next cs in
-    FullBridge b → 0 < number_of (chosen_of b) → (send_of b port t (length out)).answer ≡ 0 → PassedOn b heard (send_bytes b port t out)
+    FullBridge b → 0 < number_of (chosen_of b) → (send_of b port t (length out)).answer ≡ granted → PassedOn b heard (send_bytes b port t out)
 passed_on s cs port t out full l e = go (chosen_of b) refl (omega arith)
   where
     b : Bridge
@@ -120,24 +122,27 @@ passed_on s cs port t out full l e = go (chosen_of b) refl (omega arith)
     i : ℕ
     i = number_of (chosen_of b) - 1
 
-    go : (c : Candidate) → chosen_of b ≡ c → number_of c ≡ suc i → PassedOn b (last_taken i (setup_of s).next cs) (send_bytes b port t out)
-    go Nothing q n = absurd (omega (arith, n))
-    go (Clock p h k) q n =
-        let number : number_of (chosen_of b) ≡ k = ap number_of q in
+    go : (c : Option Candidate) → chosen_of b ≡ c → number_of c ≡ suc i → PassedOn b (last_taken i (setup_of s).next cs) (send_bytes b port t out)
+    go None q n = absurd (omega (arith, n))
+    go (Some c) q n =
+        let number : number_of (chosen_of b) ≡ c.number = ap number_of q in
         let below : i < most_ports = omega (arith, n, number, chosen_number b (eight_records s cs)) in
-        let announced = (chosen_announced b (q ∙ ap (Clock p h) n)).1 in
+        let at = chosen_announced b q n in
+        let announced = at.1 in
         let above = ⊎_elim
         (λ silent. let clash : ◌≡◌ {A = ℕ} 0 1 = cc in absurd (omega arith))
         (λ above. above)
         (run_announces s cs i below) in
-        let same = sym announced ∙ above.announced in
-        let clock : p ≡ above.fields.precedence = cc in
-        let held : h ≡ above.held = cc in
-        let sent : hop_at (send_bytes b port t out) ≡ h = wrote_hop (wrote b port t out e) full q (omega (arith, held, above.within)) in
+        let both : Some (record { precedence = c.precedence; hop = c.hop; heard_at = at.0 }) ≡ Some (record { precedence = above.fields.precedence; hop = above.held; heard_at = above.heard_at })
+        = sym announced ∙ above.announced in
+        let same : ◌≡◌ {A = Announcement} (record { precedence = c.precedence; hop = c.hop; heard_at = at.0 }) (record { precedence = above.fields.precedence; hop = above.held; heard_at = above.heard_at }) = cc in
+        let clock : c.precedence ≡ above.fields.precedence = ap (λ (x : Announcement). x.precedence) same in
+        let held : c.hop ≡ above.held = ap (λ (x : Announcement). x.hop) same in
+        let sent : hop_at (send_bytes b port t out) ≡ c.hop = wrote_hop (wrote b port t out e) full q (omega (arith, held, above.within)) in
         record {
           fields = above.fields;
           read = above.read;
-          chosen = q ∙ (λ j. Clock (clock j) (sym sent j) (sym number j));
+          chosen = q ∙ (λ j. Some (record { precedence = clock j; hop = sym sent j; number = sym number j }));
           rises = omega (arith, above.rises, held, sent);
           within = omega (arith, above.within, held, sent);
         }
@@ -146,25 +151,26 @@ passed_on s cs port t out full l e = go (chosen_of b) refl (omega arith)
 pub passed_on_refused : (s : Setup) (cs : List Call) (port t : ℕ) (out : List ℕ) (there : Bridge) (at arrival : ℕ)
     → let b = run (setup_of s).next cs in
     TypedSetup s → FullBridge b → 0 < number_of (chosen_of b) → suc (hop_at (last_taken (number_of (chosen_of b) - 1) (setup_of s).next cs)) ≡ last_hop
-    → (send_of b port t (length out)).answer ≡ 0 → port_refusal there.setup.n there.links at arrival ≡ 0
-    → (receive_of there at (take frame_length (send_bytes b port t out)) arrival).answer ≡ last_hop_heard
+    → (send_of b port t (length out)).answer ≡ granted → port_refusal there.setup.n there.links at arrival ≡ granted
+    → (receive_of there at (take frame_length (send_bytes b port t out)) arrival).answer ≡ Err LastHopHeard
 passed_on_refused s cs port t out there at arrival typed full l before e clear =
     let b = run (setup_of s).next cs in
     let p = passed_on s cs port t out full l e in
     let last : hop_at (send_bytes b port t out) ≡ last_hop = omega (arith, p.rises, p.within, before) in
-    ap (λ (d : Done). d.answer)
-    (sent_last_hop_refused b port t out there at arrival (run_lawful (setup_of s).next cs (setup_lawful s typed)) full
-    (p.chosen ∙ ap (λ (h : ℕ). Clock p.fields.precedence h (number_of (chosen_of b))) last) e clear)
+    ap (λ (d : Done ⊤). d.answer)
+    (sent_last_hop_refused b port t out there at arrival (run_lawful (setup_of s).next cs (setup_lawful s typed)) full p.chosen last e clear)
 
 -- and a frame that is passed on has the thirteen precedence bytes of the one that was heard
 pub passed_on_precedence : (s : Setup) (cs : List Call) (port t : ℕ) (out : List ℕ)
     → let b = run (setup_of s).next cs in
-    TypedSetup s → FullBridge b → 0 < number_of (chosen_of b) → (send_of b port t (length out)).answer ≡ 0
+    TypedSetup s → FullBridge b → 0 < number_of (chosen_of b) → (send_of b port t (length out)).answer ≡ granted
     → precedence_number_at (take frame_length (send_bytes b port t out)) ≡ precedence_number_at (last_taken (number_of (chosen_of b) - 1) (setup_of s).next cs)
 passed_on_precedence s cs port t out typed full l e =
     let b = run (setup_of s).next cs in
     let p = passed_on s cs port t out full l e in
     let r = sent_frame_read b port t out (run_lawful (setup_of s).next cs (setup_lawful s typed)) e full in
-    let both : Clock r.precedence r.hop r.number ≡ Clock p.fields.precedence (hop_at (send_bytes b port t out)) (number_of (chosen_of b)) = sym r.chosen ∙ p.chosen in
-    let same : r.precedence ≡ p.fields.precedence = cc in
+    let passed : Candidate = record { precedence = p.fields.precedence; hop = hop_at (send_bytes b port t out); number = number_of (chosen_of b) } in
+    let both : Some r.clock ≡ Some passed = sym r.chosen ∙ p.chosen in
+    let clock : r.clock ≡ passed = cc in
+    let same : r.clock.precedence ≡ p.fields.precedence = ap (λ (x : Candidate). x.precedence) clock in
     sym (precedence_number _ _ r.read) ∙ ap precedence_of same ∙ precedence_number _ _ p.read

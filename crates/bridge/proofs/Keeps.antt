@@ -8,14 +8,15 @@ use borrow.Author.Tests.{leb-true, leb-false, ltb-true, eqb-true}
 use lib.Dec.{leb, ltb, eqb, lit<, lit≤}
 use lib.ListN.{length, take, length-set}
 use lib.Pow.{pow_pos}
+use Rattle.std.specs.Prelude.{⊤}
+use Rattle.std.proofs.Common.{Result, Ok, Err}
+use Rattle.refusals.specs.declared.Refusal.{Refusal}
 use Rattle.numbers.specs.Bytes.{Bytes}
 use Rattle.times.specs.Times.{circle, counts}
 use Rattle.times.specs.declared.LocalTime.{LocalTime}
 use Rattle.timeline.specs.Sent.{longest_elapsed}
 use Rattle.frame.specs.Read.{read_of}
 use Rattle.frame.specs.declared.Fields.{Fields}
-use Rattle.frame.specs.declared.Reading.{Reading}
-use Rattle.frame.specs.declared.Reading.TheVariants.{Frame, Refused}
 use Rattle.port.specs.Record.{empty_port}
 use Rattle.port.specs.Lawful.{LawfulPort, LawfulClock, FieldsInRange}
 use Rattle.port.specs.declared.Profile.{Profile}
@@ -37,19 +38,15 @@ use Rattle.bridge.specs.Demands.{Call, links, own_clock, receive, age, send, aft
 use Rattle.bridge.specs.Chosen.{chosen_of}
 use Rattle.bridge.specs.declared.Bridge.{Bridge}
 use Rattle.bridge.specs.declared.Done.{Done}
-use Rattle.bridge.specs.declared.Linked.{Linked}
 use Rattle.numbers.proofs.Branches.{if_when}
 use Rattle.times.proofs.TestLaws.{both_hold}
 use Rattle.port.proofs.PortLaws.{empty_lawful, used_lawful, aged_lawful, received_lawful, own_reading_lawful, read_in_range}
 use Rattle.bridge.proofs.Walk.{each_length, each_all, set_all}
-use Rattle.bridge.proofs.CheckLaws.{port_ready, own_ready}
+use Rattle.bridge.proofs.CheckLaws.{granted_when, port_ready, own_ready}
 use Rattle.bridge.proofs.Records.{fresh_record}
 
-abbrev pub Next : Done → Type 0
+abbrev pub Next : {A : Type 0} → Done A → Type 0
 Next d = Lawful d.next
-
-abbrev LinkedNext : Linked → Type 0
-LinkedNext d = Lawful d.next
 
 -- ---- a state by its parts
 
@@ -114,7 +111,7 @@ none_lawful = record {
   ports_most = lit≤ tt;
   timeout_most = lit≤ tt;
   back_small = lit< tt;
-  listener_fits = λ l. let z : ◌≡◌ {A = ℕ} 0 1 = cc in absurd (omega arith);
+  listener_fits = λ l. cc;
   delays-fit = refl;
   versions-fit = refl;
 }
@@ -135,7 +132,7 @@ listener_taken s fits listens =
 pub setup_lawful : (s : Setup) → TypedSetup s → Lawful (setup_of s).next
 unfolding setup_of setup_fits ranges_fit
 setup_lawful s typed =
-    if_when Next (setup_fits s)
+    if_when (λ (d : Done ⊤). Next d) (setup_fits s)
     (λ e.
     let g = both_hold (profile_fits s.sender.profile s.n s.capable s.sender.back) _ e in
     let a = both_hold (leb 1 s.n) _ g.1 in
@@ -160,19 +157,19 @@ setup_lawful s typed =
 pub links_lawful : (b : Bridge) (mask : ℕ) → Lawful b → Lawful (links_of b mask).next
 unfolding links_of mask_beyond relinked_port
 links_lawful b mask h =
-    if_when LinkedNext (leb (2 ^ b.setup.n) mask) (λ _. h)
+    if_when (λ (d : Done ℕ). Next d) (leb (2 ^ b.setup.n) mask) (λ _. h)
     (λ e. each_kept (relinked_port b.links mask) b mask h (leb-false _ _ e)
     (λ k p l. if_when LawfulPort (eqb (bit b.links k) 1 && eqb (bit mask k) 0) (λ _. empty_lawful) (λ _. l)))
 
 pub own_lawful : (b : Bridge) (count seconds fraction at : ℕ) → count < counts → Lawful b → Lawful (own_clock_of b count seconds fraction at).next
 unfolding own_clock_of
 own_lawful b count seconds fraction at byte h =
-    if_when Next (eqb (own_clock_refusal b.setup.capable seconds fraction at) 0)
+    granted_when (λ (d : Done ⊤). Next d) (own_clock_refusal b.setup.capable seconds fraction at)
     (λ e.
-    let r = own_ready b.setup.capable seconds fraction at (eqb-true _ _ e) in
+    let r = own_ready b.setup.capable seconds fraction at e in
     clock_kept b _ h
     (own_reading_lawful count (record { 0 = seconds; 1 = fraction }) (record { 0 = at }) b.clock byte r.time (record { seconds = r.whole; fraction = r.part }) h.clock_lawful))
-    (λ _. h)
+    (λ _ _. h)
 
 heard_lawful : (b : Bridge) (i : ℕ) (f : Fields) (at : LocalTime) → Lawful b → at.0 < circle → FieldsInRange f → Lawful (receive_fields_of (chosen_of b) b i f at).next
 unfolding receive_fields_of
@@ -181,26 +178,26 @@ heard_lawful b i f at h t r = port_kept b i _ h (received_lawful _ _ f at _ t r 
 pub receive_lawful : (b : Bridge) (port : ℕ) (frame : List ℕ) (arrival : ℕ) → Bytes frame → Lawful b → Lawful (receive_of b port frame arrival).next
 unfolding receive_of
 receive_lawful b port frame arrival bytes h =
-    if_when Next (eqb (port_refusal b.setup.n b.links port arrival) 0)
-    (λ e. by (read_of frame) refl (port_ready b.setup.n b.links port arrival (eqb-true _ _ e)).time)
-    (λ _. h)
+    granted_when (λ (d : Done ⊤). Next d) (port_refusal b.setup.n b.links port arrival)
+    (λ e. by (read_of frame) refl (port_ready b.setup.n b.links port arrival e).time)
+    (λ _ _. h)
   where
-    by : (r : Reading) → read_of frame ≡ r → arrival < circle → Next (read_by (chosen_of b) b (port - 1) r (record { 0 = arrival }))
-    by (Refused k) q t = h
-    by (Frame f) q t = heard_lawful b (port - 1) f (record { 0 = arrival }) h t (read_in_range frame f bytes q)
+    by : (r : Result Fields Refusal) → read_of frame ≡ r → arrival < circle → Next (read_by (chosen_of b) b (port - 1) r (record { 0 = arrival }))
+    by (Err k) q t = h
+    by (Ok f) q t = heard_lawful b (port - 1) f (record { 0 = arrival }) h t (read_in_range frame f bytes q)
 
 pub age_lawful : (b : Bridge) (at : ℕ) → Lawful b → Lawful (age_of b at).next
 unfolding age_of
 age_lawful b at h =
-    if_when Next (leb circle at) (λ _. h)
+    if_when (λ (d : Done ⊤). Next d) (leb circle at) (λ _. h)
     (λ _. each_kept _ b b.links h h.links_most (λ k p l. aged_lawful (record { 0 = at }) b.setup.timeout p l))
 
 pub send_lawful : (b : Bridge) (port t room : ℕ) → Lawful b → Lawful (send_of b port t room).next
 unfolding send_of
 send_lawful b port t room h =
-    if_when Next (eqb (send_refusal b.setup.n b.links port t room) 0)
+    granted_when (λ (d : Done ⊤). Next d) (send_refusal b.setup.n b.links port t room)
     (λ _. port_kept b (port - 1) _ h (used_lawful _ (h.ports_lawful (port - 1))))
-    (λ _. h)
+    (λ _ _. h)
 
 -- ---- calls in a row
 

@@ -7,25 +7,24 @@ use native.Mathlib.Omega.{arith}
 use borrow.Author.Tests.{eqb-true, eqb-false}
 use lib.Dec.{eqb}
 use lib.ListN.{length, take}
+use Rattle.std.specs.Prelude.{⊤}
+use Rattle.std.proofs.Common.{Option, Some, None, Result, Ok, Err}
+use Rattle.refusals.specs.Answer.{answer_number, granted, told}
+use Rattle.refusals.specs.declared.Refusal.{Refusal}
+use Rattle.refusals.specs.declared.Refusal.TheVariants.{FewSamples}
 use Rattle.refusals.specs.Order.{Condition, First, nowhere, here, later, given}
 use Rattle.samples.specs.Keep.{ends_of}
 use Rattle.samples.specs.declared.Ends.{Ends}
-use Rattle.samples.specs.declared.Ends.TheVariants.{Few}
 use Rattle.timeline.specs.Sent.{sent_through_of, sent_of}
 use Rattle.choice.specs.Hop.{last_hop, hop_of}
-use Rattle.choice.specs.Precedence.{key_of, worst_precedence}
+use Rattle.choice.specs.Precedence.{precedence_of, key_of, worst_precedence}
 use Rattle.choice.specs.Choose.{rank_of, chosen_hop}
-use Rattle.choice.specs.declared.Precedence.{Precedence}
-use Rattle.choice.specs.declared.Announcement.TheVariants.{Announced}
 use Rattle.choice.specs.declared.Candidate.{Candidate}
-use Rattle.choice.specs.declared.Candidate.TheVariants.{Clock}
 use Rattle.frame.specs.Frame.{frame_length}
 use Rattle.frame.specs.declared.Fields.{Fields}
-use Rattle.frame.specs.declared.Reading.TheVariants as Readings
-use Rattle.port.specs.Send.{stretch_of, sending_by, clock_sending, sending_no, listener_hop_of}
+use Rattle.port.specs.Send.{stretch_of, sending_by, clock_sending, listener_hop_of}
 use Rattle.port.specs.declared.Profile.TheVariants.{Full, Listener}
 use Rattle.port.specs.declared.Port.{Port}
-use Rattle.port.specs.declared.Sending.TheVariants.{Refused}
 use Rattle.bridge.specs.Table.{port_at, most_ports, samples_at, samples_of_choice}
 use Rattle.bridge.specs.Arguments.{port_refusal, send_refusal}
 use Rattle.bridge.specs.State.{version_at, TypedSetup, ListenerSetup, Lawful, FullBridge, Listens, answers}
@@ -38,13 +37,12 @@ use Rattle.bridge.specs.Send.{chosen_samples, sending_at, send_of, send_bytes}
 use Rattle.bridge.specs.Demands.{From, ListenerAnswers, candidates, NoWorse, Call, run, FromListener, HeardListeners}
 use Rattle.bridge.specs.declared.Bridge.{Bridge}
 use Rattle.bridge.specs.declared.Done.{Done}
-use Rattle.numbers.proofs.Branches.{if_when, if_both}
 use Rattle.samples.proofs.KeepLaws.{Still, still_few, ends_few}
 use Rattle.choice.proofs.WorstLaws.{worst_only}
 use Rattle.port.proofs.PortLaws.{send_as}
 use Rattle.port.proofs.Order.{frame_order}
 use Rattle.port.proofs.ListenerLaws.{listener-hop, received_still, aged_still}
-use Rattle.bridge.proofs.CheckLaws.{send_is}
+use Rattle.bridge.proofs.CheckLaws.{granted_when, granted_both, send_is}
 use Rattle.bridge.proofs.Keeps.{setup_lawful, run_lawful}
 use Rattle.bridge.proofs.Refused.{own_answers}
 use Rattle.bridge.proofs.Order.{own_clock_order}
@@ -58,7 +56,7 @@ use Rattle.bridge.proofs.Heard.{took, taken_announced, heard_run}
 -- ---- a listener
 
 -- after any calls it has one port, is not capable and has backTime 0
-pub listener_setup : (s : Setup) (cs : List Call) → TypedSetup s → s.sender.profile ≡ Listener → (setup_of s).answer ≡ 0 → ListenerSetup (run (setup_of s).next cs).setup
+pub listener_setup : (s : Setup) (cs : List Call) → TypedSetup s → s.sender.profile ≡ Listener → (setup_of s).answer ≡ granted → ListenerSetup (run (setup_of s).next cs).setup
 listener_setup s cs typed listens done =
     (run_lawful (setup_of s).next cs (setup_lawful s typed)).setup_lawful.listener_fits (listener_stays s cs listens done)
 
@@ -71,7 +69,7 @@ by_10 s (later _ _ _ (later _ _ _ (later _ _ _ (here _ _ _ e)))) = inr e
 by_10 s (later _ _ _ (later _ _ _ (later _ _ _ (later _ _ n _)))) = absurd (n s)
 
 pub listener_own_clock : (b : Bridge) (count seconds fraction at : ℕ) → Lawful b → Listens b
-    → let d = own_clock_of b count seconds fraction at in ((d.answer ≡ 2) ⊎ (d.answer ≡ 10)) × (d.next ≡ b)
+    → let d = own_clock_of b count seconds fraction at in let k = answer_number d.answer in ((k ≡ 2) ⊎ (k ≡ 10)) × (d.next ≡ b)
 listener_own_clock b count seconds fraction at lawful listens =
     let refused = by_10 (lawful.setup_lawful.listener_fits listens).not_capable (own_clock_order b count seconds fraction at) in
     ⊎_elim
@@ -83,29 +81,29 @@ listener_own_clock b count seconds fraction at lawful listens =
 
 module _ (b : Bridge) (port t : ℕ) (listens : Listens b) where
   -- whatever was heard, kept or is old, it sends a frame
-  listens_frame : sending_no (sending_at (chosen_of b) b (port - 1) (record { 0 = t })) ≡ 0
+  listens_frame : told (sending_at (chosen_of b) b (port - 1) (record { 0 = t })) ≡ granted
   unfolding sending_at
-  listens_frame = ap sending_no (sym (send_as (chosen_of b) (chosen_samples b) b.setup.sender (version_at b (port - 1)) (record { 0 = t }) (port_at b.ports (port - 1)) Listener listens))
+  listens_frame = ap told (sym (send_as (chosen_of b) (chosen_samples b) b.setup.sender (version_at b (port - 1)) (record { 0 = t }) (port_at b.ports (port - 1)) Listener listens))
 
   -- it is answered by the port, the local time, the link and the room alone
   pub listener_answer : (room : ℕ) → (send_of b port t room).answer ≡ send_refusal b.setup.n b.links port t room
   unfolding send_of
   listener_answer room =
-      if_when (λ (d : Done). d.answer ≡ send_refusal b.setup.n b.links port t room) (eqb (send_refusal b.setup.n b.links port t room) 0)
-      (λ e. listens_frame ∙ sym (eqb-true _ _ e))
-      (λ _. refl)
+      granted_when (λ (d : Done ⊤). d.answer ≡ send_refusal b.setup.n b.links port t room) (send_refusal b.setup.n b.links port t room)
+      (λ e. listens_frame ∙ sym e)
+      (λ _ _. refl)
 
   -- so with 0, 2, 3 or 4; a refusal stores nothing and leaves the output as it was
   pub listener_answers : (out : List ℕ) → ListenerAnswers b out (send_of b port t (length out)) (send_bytes b port t out)
   unfolding send_of send_bytes
   listener_answers out =
-      if_both (ListenerAnswers b out) (eqb (send_refusal b.setup.n b.links port t (length out)) 0)
-      (λ _. inl listens_frame)
-      (λ _. send_is (λ (k : ℕ). ListenerAnswers b out (answers k b) out) b.setup.n b.links port t (length out)
+      granted_both (ListenerAnswers b out) (send_refusal b.setup.n b.links port t (length out))
+      (λ _. inl (ap answer_number listens_frame))
+      (λ _ _. send_is (λ (r : Result ⊤ Refusal). ListenerAnswers b out (answers r b) out) b.setup.n b.links port t (length out)
       (inr ((omega arith, omega arith), refl, refl)) (inr ((omega arith, omega arith), refl, refl)) (inr ((omega arith, omega arith), refl, refl)) (inl refl))
 
   -- its frame is one as listeners send them
-  pub listener-frame : (out : List ℕ) → Lawful b → (send_of b port t (length out)).answer ≡ 0 → FromListener (take frame_length (send_bytes b port t out))
+  pub listener-frame : (out : List ℕ) → Lawful b → (send_of b port t (length out)).answer ≡ granted → FromListener (take frame_length (send_bytes b port t out))
   listener-frame out lawful sent =
       record { fields = _; read = listener_frame_read b port t out lawful sent listens; precedence = refl; hop = refl; grand = refl; error = refl }
 
@@ -120,32 +118,38 @@ from_8 n (later _ _ _ (later _ _ _ (later _ _ _ (nowhere e)))) = inl e
 
 module _ (b : Bridge) (port : ℕ) (frame : List ℕ) (arrival : ℕ) (from : FromListener frame) where
   -- at a port with a link and a local time in range it is taken, or refused with 8 or 9
-  pub listener_received : port_refusal b.setup.n b.links port arrival ≡ 0 → let k = (receive_of b port frame arrival).answer in (k ≡ 0) ⊎ From 8 9 k
+  pub listener_received : port_refusal b.setup.n b.links port arrival ≡ granted → let k = answer_number (receive_of b port frame arrival).answer in (k ≡ 0) ⊎ From 8 9 k
   unfolding receive_fields_of
   listener_received clear =
-      subst (λ (d : Done). (d.answer ≡ 0) ⊎ From 8 9 d.answer)
-      (receive_read b port frame arrival 0 (sym clear) (Readings.Frame from.fields) refl (sym from.read))
+      subst (λ (d : Done ⊤). (answer_number d.answer ≡ 0) ⊎ From 8 9 (answer_number d.answer))
+      (receive_read b port frame arrival (Ok from.fields) (sym clear) (sym from.read))
       (from_8 (λ e. omega (arith, e, from.hop)) (frame_order (setting_at b (port - 1)) (chosen_hop (chosen_of b)) from.fields (record { 0 = arrival }) (port_at b.ports (port - 1))))
 
   -- where it is taken, its clock is announced with the worst precedence at the last hop
-  pub listener_held : Lawful b → (receive_of b port frame arrival).answer ≡ 0
-      → (port_at (receive_of b port frame arrival).next.ports (port - 1)).announcement ≡ Announced worst_precedence last_hop (record { 0 = arrival })
+  pub listener_held : Lawful b → (receive_of b port frame arrival).answer ≡ granted
+      → (port_at (receive_of b port frame arrival).next.ports (port - 1)).announcement ≡ Some (record { precedence = worst_precedence; hop = last_hop; heard_at = record { 0 = arrival } })
   listener_held lawful e =
       let t = took b port frame arrival e in
-      let both : Readings.Frame t.fields ≡ Readings.Frame from.fields = sym t.read ∙ from.read in
+      let both : Ok t.fields ≡ Ok from.fields = sym t.read ∙ from.read in
       let same : t.fields ≡ from.fields = cc in
       let hop : t.fields.hop ≡ listener_hop_of = ap (λ (f : Fields). f.hop) same ∙ from.hop in
       let precedence : t.fields.precedence ≡ worst_precedence = ap (λ (f : Fields). f.precedence) same ∙ from.precedence in
       taken_announced b port frame arrival lawful e
-      ∙ (λ i. Announced (precedence i) ((ap (λ (h : ℕ). hop_of h (chosen_hop (chosen_of b))) hop ∙ listener-hop (chosen_hop (chosen_of b))) i) (record { 0 = arrival }))
+      ∙ (λ i. Some (record {
+        precedence = precedence i;
+        hop = (ap (λ (h : ℕ). hop_of h (chosen_hop (chosen_of b))) hop ∙ listener-hop (chosen_hop (chosen_of b))) i;
+        heard_at = record { 0 = arrival };
+      }))
 
 -- a clock of the worst precedence is chosen only where no clock of another precedence is a candidate
-pub worst_chosen : (b : Bridge) → Lawful b → {h n : ℕ} → chosen_of b ≡ Clock worst_precedence h n → {p : Precedence} {k j : ℕ} → Memᴰ (Clock p k j) (candidates b) → p ≡ worst_precedence
+pub worst_chosen : (b : Bridge) → Lawful b → {c : Candidate} → chosen_of b ≡ Some c → c.precedence ≡ worst_precedence → {other : Candidate} → Memᴰ (Some other) (candidates b)
+    → other.precedence ≡ worst_precedence
 unfolding rank_of key_of
-worst_chosen b lawful {h} {n} chosen {p} {k} {j} member =
-    let fits = candidates_fit b lawful (Clock p k j) member in
-    let least = subst (λ (x : Candidate). NoWorse x (Clock p k j)) chosen (chosen_least b (Clock p k j) member) in
-    worst_only p fits.0 (omega (arith, least, fits.1, fits.2))
+worst_chosen b lawful {c} chosen worst {other} member =
+    let fits = candidates_fit b lawful (Some other) member in
+    let least = subst (λ (x : Option Candidate). NoWorse x (Some other)) chosen (chosen_least b (Some other) member) in
+    let key : precedence_of c.precedence ≡ precedence_of worst_precedence = ap precedence_of worst in
+    worst_only other.precedence fits.0 (omega (arith, least, key, fits.1, fits.2))
 
 -- ---- a listener alone gives no line
 
@@ -159,31 +163,33 @@ heard_still s cs i h =
     (λ frames at timeout p u all. aged_still at timeout p (u all))
     (λ frames frame f setting chosen at p _ read _ u all.
     let from = all frame (Memᴰ.head refl) in
-    let both : Readings.Frame f ≡ Readings.Frame from.fields = sym read ∙ from.read in
+    let both : Ok f ≡ Ok from.fields = sym read ∙ from.read in
     let same : f ≡ from.fields = cc in
     received_still setting chosen f at p (ap (λ (g : Fields). g.grand) same ∙ from.grand) (u (λ x m. all x (Memᴰ.tail m))))
     s cs h
 
 -- A LISTENER ALONE GIVES NO LINE: where that port's clock is chosen, there are no two samples to read one off
-pub listeners_no_line : (s : Setup) (cs : List Call) (i : ℕ) {p : Precedence} {h : ℕ}
+pub listeners_no_line : (s : Setup) (cs : List Call) (i : ℕ) {c : Candidate}
     → let b = run (setup_of s).next cs in
-    i < most_ports → HeardListeners i (setup_of s).next cs → chosen_of b ≡ Clock p h (suc i) → ends_of (chosen_samples b) ≡ Few
+    i < most_ports → HeardListeners i (setup_of s).next cs → chosen_of b ≡ Some c → c.number ≡ suc i → ends_of (chosen_samples b) ≡ None
 unfolding samples_of_choice samples_at
-listeners_no_line s cs i below heard chosen =
+listeners_no_line s cs i below heard chosen number =
     let b = run (setup_of s).next cs in
     let samples = (port_at b.ports i).samples in
-    ap (λ (c : Candidate). ends_of (samples_of_choice c b.clock b.ports)) chosen ∙ ends_few samples (still_few 0 samples (heard_still s cs i below heard))
+    ap (λ (x : Option Candidate). ends_of (samples_of_choice x b.clock b.ports)) chosen
+    ∙ ap (λ (n : ℕ). ends_of (samples_at n b.clock b.ports)) number
+    ∙ ends_few samples (still_few 0 samples (heard_still s cs i below heard))
 
 -- so a full bridge sends nothing for it, at any port: 11
-pub listeners_few : (s : Setup) (cs : List Call) (i port t room : ℕ) {p : Precedence} {h : ℕ}
+pub listeners_few : (s : Setup) (cs : List Call) (i port t room : ℕ) {c : Candidate}
     → let b = run (setup_of s).next cs in
-    FullBridge b → i < most_ports → HeardListeners i (setup_of s).next cs → chosen_of b ≡ Clock p h (suc i) → send_refusal b.setup.n b.links port t room ≡ 0
-    → (send_of b port t room).answer ≡ 11
+    FullBridge b → i < most_ports → HeardListeners i (setup_of s).next cs → chosen_of b ≡ Some c → c.number ≡ suc i → send_refusal b.setup.n b.links port t room ≡ granted
+    → (send_of b port t room).answer ≡ Err FewSamples
 unfolding send_of sending_at sent_of
-listeners_few s cs i port t room {p} {h} full below heard chosen clear =
-    if_when (λ (d : Done). d.answer ≡ 11) (eqb (send_refusal b.setup.n b.links port t room) 0)
-    (λ _. ap sending_no (sym (send_as (chosen_of b) (chosen_samples b) b.setup.sender (version_at b (port - 1)) (record { 0 = t }) held Full full) ∙ for_clock))
-    (λ e. absurd (eqb-false _ _ e clear))
+listeners_few s cs i port t room {c} full below heard chosen number clear =
+    granted_when (λ (d : Done ⊤). d.answer ≡ Err FewSamples) (send_refusal b.setup.n b.links port t room)
+    (λ _. ap told (sym (send_as (chosen_of b) (chosen_samples b) b.setup.sender (version_at b (port - 1)) (record { 0 = t }) held Full full) ∙ for_clock))
+    (λ refusal e. cc)
   where
     b : Bridge
     b = run (setup_of s).next cs
@@ -191,8 +197,8 @@ listeners_few s cs i port t room {p} {h} full below heard chosen clear =
     held : Port
     held = port_at b.ports (port - 1)
 
-    for_clock : clock_sending (chosen_of b) (chosen_samples b) b.setup.sender (version_at b (port - 1)) (record { 0 = t }) held ≡ Refused 11
+    for_clock : clock_sending (chosen_of b) (chosen_samples b) b.setup.sender (version_at b (port - 1)) (record { 0 = t }) held ≡ Err FewSamples
     for_clock =
-        ap (λ (c : Candidate). clock_sending c (chosen_samples b) b.setup.sender (version_at b (port - 1)) (record { 0 = t }) held) chosen
-        ∙ ap (λ (e : Ends). sending_by (sent_through_of e (record { 0 = t }) b.setup.sender.back (stretch_of (version_at b (port - 1)) b.setup.sender.back)) b.setup.sender (version_at b (port - 1)) p h (record { 0 = t }) held)
-        (listeners_no_line s cs i below heard chosen)
+        ap (λ (x : Option Candidate). clock_sending x (chosen_samples b) b.setup.sender (version_at b (port - 1)) (record { 0 = t }) held) chosen
+        ∙ ap (λ (e : Option Ends). sending_by (sent_through_of e (record { 0 = t }) b.setup.sender.back (stretch_of (version_at b (port - 1)) b.setup.sender.back)) b.setup.sender (version_at b (port - 1)) c.precedence c.hop (record { 0 = t }) held)
+        (listeners_no_line s cs i below heard chosen number)

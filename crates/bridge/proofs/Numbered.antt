@@ -10,10 +10,10 @@ use native.Mathlib.Omega.{arith}
 use lib.Dec.{lit<}
 use lib.ListN.{length, drop}
 use lib.Seq.{drop-cons, drop-length}
+use Rattle.std.proofs.Common.{Option, Some, None}
 use Rattle.choice.specs.Choose.{candidate_of, own_candidate}
 use Rattle.choice.specs.Rank.{CandidateFits}
 use Rattle.choice.specs.declared.Announcement.{Announcement}
-use Rattle.choice.specs.declared.Announcement.TheVariants.{Silent, Announced}
 use Rattle.choice.specs.declared.Candidate.{Candidate}
 use Rattle.port.specs.Record.{empty_port}
 use Rattle.port.specs.Lawful.{LawfulAnnouncement}
@@ -67,10 +67,10 @@ module _ (b : Bridge) (lawful : Lawful b) where
   own_fits true = (lawful.setup_lawful.typed.own_fits, lit< tt, lit< tt)
   own_fits false = tt
 
-  heard_fits : (number : ℕ) (x : Announcement) → number ≤ most_ports → LawfulAnnouncement x → CandidateFits (candidate_of number x)
+  heard_fits : (number : ℕ) (x : Option Announcement) → number ≤ most_ports → LawfulAnnouncement x → CandidateFits (candidate_of number x)
   unfolding candidate_of
-  heard_fits number Silent l h = tt
-  heard_fits number (Announced precedence hop heard_at) l h = announced_fits precedence hop number heard_at h (omega arith)
+  heard_fits number None l h = tt
+  heard_fits number (Some a) l h = announced_fits a number h (omega arith)
 
   -- under every number up to eight
   under_fits : (number : ℕ) → number ≤ most_ports → CandidateFits (candidate_under_of b number)
@@ -82,7 +82,7 @@ module _ (b : Bridge) (lawful : Lawful b) where
   unfolding numbers_from_of
   numbered_fits number m = under_fits number (omega (arith, numbers_below 0 (suc most_ports) m))
 
-  pub candidates_fit : (x : Candidate) → Memᴰ x (candidates b) → CandidateFits x
+  pub candidates_fit : (x : Option Candidate) → Memᴰ x (candidates b) → CandidateFits x
   candidates_fit x m =
       let (number, n, e) = Memᴰ.of_map (candidate_under_of b) (numbers_to most_ports) (subst (Memᴰ x) (candidates_numbered b lawful.records) m) in
       subst CandidateFits e (numbered_fits number n)

@@ -9,6 +9,11 @@ use lib.Dec.{ltb, eqb}
 use lib.ListN.{get_or, take}
 use lib.Pow.{pow-lt, pow_mono, shl-shr, shr_lt, shr_mono}
 use borrow.Author.Tests.{eqb-true, eqb-false, leb-true, leb-false, ltb-true, ltb-false}
+use Rattle.std.specs.Prelude.{⊤}
+use Rattle.std.proofs.Common.{Option, Some, None, Result, Ok, Err}
+use Rattle.refusals.specs.Answer.{answer_number, granted}
+use Rattle.refusals.specs.declared.Refusal.{Refusal}
+use Rattle.refusals.specs.declared.Refusal.TheVariants.{BadSetup}
 use Rattle.refusals.specs.Order.{Condition, given, Lowest, First, nowhere}
 use Rattle.numbers.specs.Table.{parted}
 use Rattle.times.specs.declared.LocalTime.{LocalTime}
@@ -17,7 +22,6 @@ use Rattle.delay.specs.declared.DelaySetting.TheVariants.{Measured, Fixed}
 use Rattle.timeline.specs.Drift.{drift_through_of, drift_of, drift_no}
 use Rattle.samples.specs.Keep.{ends_of}
 use Rattle.samples.specs.declared.Ends.{Ends}
-use Rattle.samples.specs.declared.Ends.TheVariants.{Few, Both}
 use Rattle.choice.specs.Choose.{chosen_hop}
 use Rattle.frame.specs.Frame.{is_version, fields_of}
 use Rattle.frame.specs.Read.{rows_of, read_refusal, read_as, read_of}
@@ -31,7 +35,7 @@ use Rattle.bridge.specs.Table.{port_at, samples_at}
 use Rattle.bridge.specs.Fits.{delay_fits, all, setting_fits, measured_setting, ranges_fit, profile_fits, setup_fits}
 use Rattle.bridge.specs.State.{Lawful, version_at, answers, refused_or}
 use Rattle.bridge.specs.Setup.{fresh_of, no_bridge, setup_of}
-use Rattle.bridge.specs.Links.{links_of, link_no}
+use Rattle.bridge.specs.Links.{links_of}
 use Rattle.bridge.specs.Own.{own_clock_of}
 use Rattle.bridge.specs.Receive.{setting_at, read_by, receive_fields_of, receive_of}
 use Rattle.bridge.specs.Age.{age_of}
@@ -42,10 +46,10 @@ use Rattle.bridge.specs.Order.{Above, ListenerOtherwise, setup_conditions, BitBe
 use Rattle.bridge.specs.declared.Setup.{Setup}
 use Rattle.bridge.specs.declared.Bridge.{Bridge}
 use Rattle.bridge.specs.declared.Done.{Done}
-use Rattle.bridge.specs.declared.Linked.{Linked}
 use Rattle.refusals.proofs.Order.{ascends, first_lowest, same_number, Tells, Fails, less_tells, most_tells, less_fails, most_fails, same_fails, first_if, fails_same, Checks, check, check_both, checked, either_fails, first_stays, first_more}
-use Rattle.frame.proofs.Order.{first_unless, version_fails, read_order}
+use Rattle.frame.proofs.Order.{first_require, version_fails, read_order}
 use Rattle.port.proofs.Order.{frame_order, reading_order, departure_order}
+use Rattle.bridge.proofs.CheckLaws.{no_refusal}
 use Rattle.bridge.proofs.TableLaws.{link_beyond, chosen_lawful}
 
 -- ---- Setup
@@ -64,16 +68,16 @@ all_fail test Other plain fails passes zero l = record { is = λ e. absurd (true
 all_fail test Other plain fails passes (suc n) [] = record { is = λ e. absurd (true≢false e); not = λ _ h. passes h.2 }
 all_fail {A} test Other plain fails passes (suc n) (a ∷ l) = fails_same (⊎_elim at_first at_next) split (either_fails (fails a) (all_fail test Other plain fails passes n l))
   where
-    Some : ℕ → List A → Type 0
-    Some n l = (i : ℕ) × (i < n) × Other (get_or l i plain)
+    Somewhere : ℕ → List A → Type 0
+    Somewhere n l = (i : ℕ) × (i < n) × Other (get_or l i plain)
 
-    at_first : Other a → Some (suc n) (a ∷ l)
+    at_first : Other a → Somewhere (suc n) (a ∷ l)
     at_first h = (0, omega arith, h)
 
-    at_next : Some n l → Some (suc n) (a ∷ l)
+    at_next : Somewhere n l → Somewhere (suc n) (a ∷ l)
     at_next (i, k, h) = (suc i, omega (arith, k), h)
 
-    split : Some (suc n) (a ∷ l) → Other a ⊎ Some n l
+    split : Somewhere (suc n) (a ∷ l) → Other a ⊎ Somewhere n l
     split (zero, k, h) = inl h
     split (suc i, k, h) = inr (i, omega (arith, k), h)
 
@@ -101,9 +105,9 @@ setup_checks s =
     (check (all_fail is_version NoVersion 1 version_fails (λ other. other.0 refl) s.n s.versions))))))))
 
 -- Setup refuses with 1 where one of its conditions holds, and else not
-pub setup_lowest : (s : Setup) → Lowest (setup_conditions s) (setup_of s).answer
+pub setup_lowest : (s : Setup) → Lowest (setup_conditions s) (answer_number (setup_of s).answer)
 unfolding setup_of
-setup_lowest s = first_lowest 1 refl (checked (λ (d : Done). d.answer) (answers 0 (fresh_of s)) (answers 1 no_bridge) refl refl (setup_checks s))
+setup_lowest s = first_lowest 1 refl (checked (λ (d : Done ⊤). answer_number d.answer) (answers granted (fresh_of s)) (answers (Err BadSetup) no_bridge) refl refl (setup_checks s))
 
 -- ---- Links, Age and Drift
 
@@ -134,21 +138,21 @@ mask_tells n mask = record {
 }
 
 -- Links, Age and Drift refuse with 2 where their condition holds, and else not
-pub links_lowest : (b : Bridge) (mask : ℕ) → Lowest (links_conditions b mask) (link_no (links_of b mask).answer)
+pub links_lowest : (b : Bridge) (mask : ℕ) → Lowest (links_conditions b mask) (answer_number (links_of b mask).answer)
 unfolding links_of
-links_lowest b mask = first_lowest 1 refl (first_if (λ (d : Linked). link_no d.answer) (mask_tells b.setup.n mask) (λ _. nowhere refl))
+links_lowest b mask = first_lowest 1 refl (first_if (λ (d : Done ℕ). answer_number d.answer) (mask_tells b.setup.n mask) (λ _. nowhere refl))
 
-pub age_lowest : (b : Bridge) (at : ℕ) → Lowest (age_conditions at) (age_of b at).answer
+pub age_lowest : (b : Bridge) (at : ℕ) → Lowest (age_conditions at) (answer_number (age_of b at).answer)
 unfolding age_of
-age_lowest b at = first_lowest 1 refl (first_if (λ (d : Done). d.answer) (most_tells (2 ^ 48) at) (λ _. nowhere refl))
+age_lowest b at = first_lowest 1 refl (first_if (λ (d : Done ⊤). answer_number d.answer) (most_tells (2 ^ 48) at) (λ _. nowhere refl))
 
 pub drift_lowest : (b : Bridge) (port : ℕ) → Lowest (drift_conditions b port) (drift_no (drift_at b port))
 unfolding drift_at drift_of
 drift_lowest b port = first_lowest 1 refl (first_if drift_no (less_tells b.setup.n port) (λ _. nowhere (read (ends_of (samples_at port b.clock b.ports)))))
   where
-    read : (e : Ends) → drift_no (drift_through_of e) ≡ 0
-    read Few = refl
-    read (Both x y) = refl
+    read : (e : Option Ends) → drift_no (drift_through_of e) ≡ 0
+    read None = refl
+    read (Some ends) = refl
 
 -- ---- a port
 
@@ -160,35 +164,34 @@ link_fails links port = record {
 }
 
 -- 2 and 3, and then the rest
-on_port_order : (n links port at : ℕ) {rest : ℕ} {cs : List Condition} → First rest cs → First (on_port_of n links port at rest) (port_conditions n links port at ++ cs)
+on_port_order : (n links port at : ℕ) {rest : Result ⊤ Refusal} {cs : List Condition} → First (answer_number rest) cs
+    → First (answer_number (on_port_of n links port at rest)) (port_conditions n links port at ++ cs)
 on_port_order n links port at f =
-    first_unless (most_fails 1 port)
-    (first_unless (most_fails port n) (first_unless (less_fails at (2 ^ 48)) (first_unless (link_fails links port) f)))
+    first_require (most_fails 1 port)
+    (first_require (most_fails port n) (first_require (less_fails at (2 ^ 48)) (first_require (link_fails links port) f)))
 
 -- a refusal before any record is looked at, or what the records answer
-refused_order : (b : Bridge) (k : ℕ) (d : Done) (cs ds : List Condition) → ascends 1 cs ≡ true → First k cs → First d.answer ds → First (refused_or b k d).answer (cs ++ ds)
-refused_order b k d cs ds a f g = by (eqb k 0) refl
-  where
-    by : (t : Bool) → eqb k 0 ≡ t → First (cond t d (answers k b)).answer (cs ++ ds)
-    by true e = first_more 1 (omega arith) a (same_number (eqb-true k 0 e) f) g
-    by false e = first_stays ds (eqb-false k 0 e) f
+refused_order : (b : Bridge) (answer : Result ⊤ Refusal) (d : Done ⊤) (cs ds : List Condition) → ascends 1 cs ≡ true → First (answer_number answer) cs
+    → First (answer_number d.answer) ds → First (answer_number (refused_or b answer d).answer) (cs ++ ds)
+refused_order b (Ok done) d cs ds a f g = first_more 1 (omega arith) a f g
+refused_order b (Err refusal) d cs ds a f g = first_stays ds (no_refusal refusal) f
 
 -- ---- Own clock
 
 -- the first of 2, 10 and 8 whose condition holds
-pub own_clock_order : (b : Bridge) (count seconds fraction at : ℕ) → First (own_clock_of b count seconds fraction at).answer (own_clock_conditions b count seconds fraction at)
+pub own_clock_order : (b : Bridge) (count seconds fraction at : ℕ) → First (answer_number (own_clock_of b count seconds fraction at).answer) (own_clock_conditions b count seconds fraction at)
 unfolding own_clock_of own_clock_refusal
 own_clock_order b count seconds fraction at =
     refused_order b _ _ _ _ refl
-    (first_unless (less_fails seconds (2 ^ 40))
-    (first_unless (less_fails fraction (2 ^ 40))
-    (first_unless (less_fails at (2 ^ 48)) (first_unless (record { is = λ e. e; not = λ e h. true≢false (sym e ∙ h) }) (nowhere refl)))))
+    (first_require (less_fails seconds (2 ^ 40))
+    (first_require (less_fails fraction (2 ^ 40))
+    (first_require (less_fails at (2 ^ 48)) (first_require (record { is = λ e. e; not = λ e h. true≢false (sym e ∙ h) }) (nowhere refl)))))
     (reading_order count (record { 0 = seconds; 1 = fraction }) (record { 0 = at }) b.clock)
 
 -- ---- Receive
 
 -- the lowest of 2 to 9 whose condition holds
-pub receive_lowest : (b : Bridge) (port : ℕ) (frame : List ℕ) (arrival : ℕ) → Lowest (receive_conditions b port frame arrival) (receive_of b port frame arrival).answer
+pub receive_lowest : (b : Bridge) (port : ℕ) (frame : List ℕ) (arrival : ℕ) → Lowest (receive_conditions b port frame arrival) (answer_number (receive_of b port frame arrival).answer)
 unfolding receive_of receive_fields_of read_of port_refusal parted
 receive_lowest b port frame arrival =
     first_lowest 1 refl
@@ -201,9 +204,10 @@ receive_lowest b port frame arrival =
     at : LocalTime
     at = record { 0 = arrival }
 
-    read : (k : ℕ) → First k (read_conditions frame) → First (read_by (chosen_of b) b i (read_as k (rows_of frame)) at).answer (read_conditions frame ++ heard_conditions b i frame)
-    read zero f = first_more 1 (omega arith) refl f (frame_order (setting_at b i) (chosen_hop (chosen_of b)) (fields_of (rows_of frame)) at (port_at b.ports i))
-    read (suc k) f = first_stays _ (λ e. omega (arith, e)) f
+    read : (x : Result ⊤ Refusal) → First (answer_number x) (read_conditions frame)
+        → First (answer_number (read_by (chosen_of b) b i (read_as x (rows_of frame)) at).answer) (read_conditions frame ++ heard_conditions b i frame)
+    read (Ok done) f = first_more 1 (omega arith) refl f (frame_order (setting_at b i) (chosen_hop (chosen_of b)) (fields_of (rows_of frame)) at (port_at b.ports i))
+    read (Err refusal) f = first_stays _ (no_refusal refusal) f
 
 -- ---- Send
 
@@ -217,11 +221,11 @@ send_ascends b port t room = by b.setup.sender.profile
     by Listener = refl
 
 -- the lowest of 2 to 4, and of a full bridge 10 to 13, whose condition holds
-pub send_lowest : (b : Bridge) (port t room : ℕ) → Lawful b → Lowest (send_conditions b port t room) (send_of b port t room).answer
+pub send_lowest : (b : Bridge) (port t room : ℕ) → Lawful b → Lowest (send_conditions b port t room) (answer_number (send_of b port t room).answer)
 unfolding send_of sending_at send_refusal
 send_lowest b port t room l =
     first_lowest 1 (send_ascends b port t room)
     (refused_order b _ _ (port_conditions b.setup.n b.links port t ++ (given 4 (room < 64) ∷ [])) _ refl
-    (on_port_order b.setup.n b.links port t (first_unless (most_fails 64 room) (nowhere refl)))
+    (on_port_order b.setup.n b.links port t (first_require (most_fails 64 room) (nowhere refl)))
     (departure_order (chosen_of b) (chosen_samples b) b.setup.sender (version_at b (port - 1)) (record { 0 = t }) (port_at b.ports (port - 1))
     (chosen_lawful (chosen_of b) b.clock b.ports l.clock_lawful l.ports_lawful) l.setup_lawful.back_small))

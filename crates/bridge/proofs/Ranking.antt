@@ -9,6 +9,10 @@ use native.Mathlib.Omega.{arith}
 use borrow.Author.Tests.{ltb-true, ltb-false, le-leb, eq-eqb, ne_eqb}
 use lib.Dec.{ltb, leb, eqb}
 use lib.ListN.{length, get_or-eq_default}
+use Rattle.std.specs.Prelude.{⊤}
+use Rattle.std.proofs.Common.{Option, Some, None, Result, Ok, Err}
+use Rattle.refusals.specs.Answer.{answer_number, granted}
+use Rattle.refusals.specs.declared.Refusal.{Refusal}
 use Rattle.times.specs.Times.{circle, since_of}
 use Rattle.times.specs.declared.LocalTime.{LocalTime}
 use Rattle.choice.specs.Choose.{candidate_of, best_of, number_of, shown_port}
@@ -16,11 +20,8 @@ use Rattle.choice.specs.Least.{rank_in}
 use Rattle.choice.specs.Permutation.{Permutation}
 use Rattle.choice.specs.Ranking.{ranked_at, Ordered, IsClock, clocks_in, how_many_below, without_number}
 use Rattle.choice.specs.Places.{candidate_in}
-use Rattle.choice.specs.declared.Precedence.{Precedence}
-use Rattle.choice.specs.declared.Announcement.TheVariants.{Silent, Announced}
 use Rattle.choice.specs.declared.Announcement.{Announcement}
 use Rattle.choice.specs.declared.Candidate.{Candidate}
-use Rattle.choice.specs.declared.Candidate.TheVariants.{Nothing, Clock}
 use Rattle.port.specs.Record.{empty_port, too_old, aged_port}
 use Rattle.port.specs.declared.Port.{Port}
 use Rattle.bridge.specs.Table.{each, port_at, most_ports, loses_link, relinked_port}
@@ -28,7 +29,7 @@ use Rattle.bridge.specs.Arguments.{bit, mask_beyond}
 use Rattle.bridge.specs.Ranking.{fresh_ranking, kept_ranking}
 use Rattle.bridge.specs.State.{TypedSetup, Lawful, with_links}
 use Rattle.bridge.specs.Setup.{setup_of}
-use Rattle.bridge.specs.Links.{links_of, link_no}
+use Rattle.bridge.specs.Links.{links_of}
 use Rattle.bridge.specs.Age.{age_of}
 use Rattle.bridge.specs.Chosen.{chosen_of}
 use Rattle.bridge.specs.Ranked.{ranked_of}
@@ -36,7 +37,6 @@ use Rattle.bridge.specs.Demands.{candidates, NotShown, Call, run}
 use Rattle.bridge.specs.declared.Setup.{Setup}
 use Rattle.bridge.specs.declared.Bridge.{Bridge}
 use Rattle.bridge.specs.declared.Done.{Done}
-use Rattle.bridge.specs.declared.Linked.{Linked}
 use Rattle.numbers.proofs.Branches.{if_when}
 use Rattle.port.proofs.PortLaws.{aged_old}
 use Rattle.choice.proofs.RankingLaws.{numbered_at, ranked_member, place_member, clock_within, ranking_permutation, ranking_only, ranking_head, ranking_second, second_next, ordered_once, ranking_below, ordered_below, ranking_count}
@@ -52,7 +52,7 @@ use Rattle.bridge.proofs.RankingLaws.{candidate_there, numbered, nine, ranking_k
 -- ---- in a lawful state
 
 module _ (b : Bridge) (lawful : Lawful b) where
-  abbrev ranking : List Candidate
+  abbrev ranking : List (Option Candidate)
   ranking = fresh_ranking b.setup b.ports
 
   -- what is kept at each place is the candidate of the ranking made afresh
@@ -67,7 +67,7 @@ module _ (b : Bridge) (lawful : Lawful b) where
   pub fresh_permutation : Permutation (clocks_in (candidates b)) ranking
   fresh_permutation = ranking_permutation (candidates b)
 
-  pub fresh_only : (l : List Candidate) → Ordered l → Permutation (clocks_in (candidates b)) l → l ≡ ranking
+  pub fresh_only : (l : List (Option Candidate)) → Ordered l → Permutation (clocks_in (candidates b)) l → l ≡ ranking
   fresh_only l o p = ranking_only (candidates b) l (numbered b lawful) (omega (arith, nine b lawful)) o p
 
   -- each once
@@ -86,11 +86,11 @@ module _ (b : Bridge) (lawful : Lawful b) where
   kept_chosen = kept_place 0 ∙ chosen_head
 
   -- THE SECOND IS THE RUNNER-UP: the best of the candidates without the chosen one
-  pub runner_up : ranked_of b 1 ≡ best_of Nothing (without_number (number_of (chosen_of b)) (candidates b))
+  pub runner_up : ranked_of b 1 ≡ best_of None (without_number (number_of (chosen_of b)) (candidates b))
   unfolding ranked_of
   runner_up =
       ranking_second (candidates b) (numbered b lawful) (omega (arith, nine b lawful)) (candidates_fit b lawful)
-      ∙ ap (λ (c : Candidate). best_of Nothing (without_number (number_of c) (candidates b))) (chosen_best b)
+      ∙ ap (λ (c : Option Candidate). best_of None (without_number (number_of c) (candidates b))) (chosen_best b)
 
   -- a clock at a place has so many better ones, and where there is none there are no more than that
   pub ranked_before : (place : ℕ) → IsClock (ranked_of b place) → how_many_below (rank_in (ranked_of b place)) (candidates b) ≡ place
@@ -99,7 +99,7 @@ module _ (b : Bridge) (lawful : Lawful b) where
       sym (ranking_below (rank_in (ranked_at ranking place)) (candidates b))
       ∙ ordered_below ranking fresh_ordered (ranking_keeps b lawful).clocks place (clock_within ranking place clock)
 
-  pub ranked_behind : (place : ℕ) → ranked_of b place ≡ Nothing → length (clocks_in (candidates b)) ≤ place
+  pub ranked_behind : (place : ℕ) → ranked_of b place ≡ None → length (clocks_in (candidates b)) ≤ place
   unfolding ranked_of
   ranked_behind place e = by (ltb place (length ranking)) refl where
     by : (t : Bool) → ltb place (length ranking) ≡ t → length (clocks_in (candidates b)) ≤ place
@@ -114,20 +114,20 @@ run_ranking s cs typed = (run_lawful (setup_of s).next cs (setup_lawful s typed)
 -- ---- a port that announces nothing
 
 -- what stands under its number is none
-silent_none : (b : Bridge) (i : ℕ) → (port_at b.ports i).announcement ≡ Silent → ranked_at (candidates b) (i + 1) ≡ Nothing
+silent_none : (b : Bridge) (i : ℕ) → (port_at b.ports i).announcement ≡ None → ranked_at (candidates b) (i + 1) ≡ None
 unfolding candidate_of
 silent_none b i e = candidate_there b i ∙ ap (candidate_of (i + 1)) e
 
 -- so no place shows it
-silent_not_shown : (b : Bridge) → Lawful b → (i : ℕ) → i < most_ports → (port_at b.ports i).announcement ≡ Silent → NotShown b i
+silent_not_shown : (b : Bridge) → Lawful b → (i : ℕ) → i < most_ports → (port_at b.ports i).announcement ≡ None → NotShown b i
 unfolding ranked_of shown_port
 silent_not_shown b lawful i h e place = by (ranked_at (fresh_ranking b.setup b.ports) place) refl
   where
-    by : (c : Candidate) → ranked_at (fresh_ranking b.setup b.ports) place ≡ c → shown_port c ≡ i + 1 → ⊥
-    by Nothing q shown = omega (arith, shown, h)
-    by (Clock p g n) q shown =
+    by : (c : Option Candidate) → ranked_at (fresh_ranking b.setup b.ports) place ≡ c → shown_port c ≡ i + 1 → ⊥
+    by None q shown = omega (arith, shown, h)
+    by (Some c) q shown =
         let within = clock_within (fresh_ranking b.setup b.ports) place (subst IsClock (sym q) tt) in
-        let there = subst (λ (x : Candidate). Memᴰ x (fresh_ranking b.setup b.ports)) q (place_member (fresh_ranking b.setup b.ports) place within) in
+        let there = subst (λ (x : Option Candidate). Memᴰ x (fresh_ranking b.setup b.ports)) q (place_member (fresh_ranking b.setup b.ports) place within) in
         let (j, number, _, at) = numbered_at 0 (candidates b) (numbered b lawful) (ranked_member (candidates b) there).0 in
         let index : j ≡ i + 1 = omega (arith, number, shown) in
         subst IsClock (sym at ∙ ap (ranked_at (candidates b)) index ∙ silent_none b i e) tt
@@ -136,17 +136,17 @@ silent_not_shown b lawful i h e place = by (ranked_at (fresh_ranking b.setup b.p
 abbrev relinked : Bridge → ℕ → Bridge
 relinked b mask = with_links b mask (each (relinked_port b.links mask) 0 b.ports)
 
-lost_silent : (b : Bridge) → Lawful b → (mask i : ℕ) → i < most_ports → loses_link b.links mask i ≡ true → (port_at (relinked b mask).ports i).announcement ≡ Silent
+lost_silent : (b : Bridge) → Lawful b → (mask i : ℕ) → i < most_ports → loses_link b.links mask i ≡ true → (port_at (relinked b mask).ports i).announcement ≡ None
 lost_silent b lawful mask i h lost =
     let turn = relinked_port b.links mask in
     sym (ap (λ (p : Port). p.announcement) (relinked_lost b.links mask i (port_at b.ports i) lost ∙ sym (each_record turn b.ports i (omega (arith, h, lawful.records)))))
 
 -- A LINK THAT GOES DOWN: the port is shown at no place after that call
-pub lost_not_shown : (b : Bridge) (mask i : ℕ) → Lawful b → i < most_ports → link_no (links_of b mask).answer ≡ 0 → bit b.links i ≡ 1 → bit mask i ≡ 0
+pub lost_not_shown : (b : Bridge) (mask i : ℕ) → Lawful b → i < most_ports → answer_number (links_of b mask).answer ≡ 0 → bit b.links i ≡ 1 → bit mask i ≡ 0
     → NotShown (links_of b mask).next i
 unfolding links_of
 lost_not_shown b mask i lawful h =
-    if_when (λ (d : Linked). Lawful d.next → link_no d.answer ≡ 0 → bit b.links i ≡ 1 → bit mask i ≡ 0 → NotShown d.next i) (mask_beyond b.setup.n mask)
+    if_when (λ (d : Done ℕ). Lawful d.next → answer_number d.answer ≡ 0 → bit b.links i ≡ 1 → bit mask i ≡ 0 → NotShown d.next i) (mask_beyond b.setup.n mask)
     (λ _ _ z _ _. absurd (omega (arith, z)))
     (λ _ left _ was now.
     let lost : loses_link b.links mask i ≡ true = rw (was, now) refl in
@@ -154,19 +154,19 @@ lost_not_shown b mask i lawful h =
     (links_lawful b mask lawful)
 
 -- A PORT THAT AGED likewise
-pub aged_not_shown : (b : Bridge) (at i : ℕ) {p : Precedence} {hop : ℕ} {heard_at : LocalTime} → Lawful b → i < most_ports → (age_of b at).answer ≡ 0
-    → (port_at b.ports i).announcement ≡ Announced p hop heard_at → b.setup.timeout ≤ since_of (record { 0 = at }) heard_at → NotShown (age_of b at).next i
+pub aged_not_shown : (b : Bridge) (at i : ℕ) {held : Announcement} → Lawful b → i < most_ports → (age_of b at).answer ≡ granted
+    → (port_at b.ports i).announcement ≡ Some held → b.setup.timeout ≤ since_of (record { 0 = at }) held.heard_at → NotShown (age_of b at).next i
 unfolding age_of
-aged_not_shown b at i lawful h z e old =
-    if_when (λ (d : Done). Lawful d.next → d.answer ≡ 0 → NotShown d.next i) (leb circle at)
-    (λ _ _ z. absurd (omega (arith, z)))
+aged_not_shown b at i {held} lawful h z e old =
+    if_when (λ (d : Done ⊤). Lawful d.next → d.answer ≡ granted → NotShown d.next i) (leb circle at)
+    (λ _ _ z. cc)
     (λ _ left _.
     silent_not_shown _ left i h
     (let timeout = b.setup.timeout in
-    let held = port_at b.ports i in
-    let found : too_old held.announcement (record { 0 = at }) timeout ≡ true = ap (λ (x : Announcement). too_old x (record { 0 = at }) timeout) e ∙ le-leb _ _ old in
+    let port = port_at b.ports i in
+    let found : too_old port.announcement (record { 0 = at }) timeout ≡ true = ap (λ (x : Option Announcement). too_old x (record { 0 = at }) timeout) e ∙ le-leb _ _ old in
     sym (ap (λ (p : Port). p.announcement)
-    (aged_old (record { 0 = at }) timeout held found ∙ sym (each_record (λ _. aged_port (record { 0 = at }) timeout) b.ports i (omega (arith, h, lawful.records)))))))
+    (aged_old (record { 0 = at }) timeout port found ∙ sym (each_record (λ _. aged_port (record { 0 = at }) timeout) b.ports i (omega (arith, h, lawful.records)))))))
     (age_lawful b at lawful)
     z
 
@@ -195,17 +195,17 @@ module _ (b : Bridge) (mask i : ℕ) (alone : (j : ℕ) → loses_link b.links m
       ∙ ap (ranked_at (candidates b)) (add-one j)
 
 -- WHERE THE CHOSEN PORT ALONE LOSES ITS LINK, the runner-up is chosen
-pub runner_up_next : (b : Bridge) (mask i : ℕ) {p : Precedence} {hop : ℕ} → Lawful b → i < most_ports → chosen_of b ≡ Clock p hop (i + 1) → link_no (links_of b mask).answer ≡ 0
+pub runner_up_next : (b : Bridge) (mask i : ℕ) {c : Candidate} → Lawful b → i < most_ports → chosen_of b ≡ Some c → c.number ≡ i + 1 → answer_number (links_of b mask).answer ≡ 0
     → ((j : ℕ) → loses_link b.links mask j ≡ eqb j i) → chosen_of (links_of b mask).next ≡ ranked_of b 1
 unfolding links_of ranked_of
-runner_up_next b mask i lawful h c z alone =
-    if_when (λ (d : Linked). Lawful d.next → link_no d.answer ≡ 0 → chosen_of d.next ≡ ranked_of b 1) (mask_beyond b.setup.n mask)
+runner_up_next b mask i {c} lawful h chosen number z alone =
+    if_when (λ (d : Done ℕ). Lawful d.next → answer_number d.answer ≡ 0 → chosen_of d.next ≡ ranked_of b 1) (mask_beyond b.setup.n mask)
     (λ _ _ z. absurd (omega (arith, z)))
     (λ _ left _.
     let next = relinked b mask in
-    let head = chosen_head b lawful ∙ c in
+    let head = chosen_head b lawful ∙ chosen in
     sym (chosen_head next left)
     ∙ second_next (candidates b) (candidates next) (numbered b lawful) (numbered next left) (omega (arith, nine b lawful)) (omega (arith, nine next left)) (i + 1) (omega (arith, h))
-    (other_candidate b mask i alone) (silent_none next i (lost_silent b lawful mask i h (alone i ∙ eq-eqb i i refl))) (subst IsClock (sym head) tt) (ap number_of head))
+    (other_candidate b mask i alone) (silent_none next i (lost_silent b lawful mask i h (alone i ∙ eq-eqb i i refl))) (subst IsClock (sym head) tt) (ap number_of head ∙ number))
     (links_lawful b mask lawful)
     z

@@ -8,13 +8,14 @@ use native.Mathlib.Numerals.{add-one}
 use native.Mathlib.Omega.{arith}
 use lib.ListN.{length, set, replicate, length-set}
 use lib.Seq.{get_or-set_same, get_or-set_other}
+use Rattle.std.proofs.Common.{Option, Some, None}
 use Rattle.choice.specs.Choose.{candidate_of, own_candidate}
 use Rattle.choice.specs.Ranking.{placed_of, ranking_of, ranked_at, with_candidate}
 use Rattle.choice.specs.Places.{places, places_of, Keeps, Updates}
 use Rattle.choice.specs.declared.Precedence.{Precedence}
 use Rattle.choice.specs.declared.Announcement.{Announcement}
-use Rattle.choice.specs.declared.Announcement.TheVariants.{Silent, Announced}
 use Rattle.choice.specs.declared.Candidate.{Candidate}
+use Rattle.choice.specs.declared.Rank.{Rank}
 use Rattle.port.specs.Record.{empty_port}
 use Rattle.port.specs.declared.Port.{Port}
 use Rattle.bridge.specs.Table.{port_at, most_ports, candidates_from, candidates_of}
@@ -28,10 +29,10 @@ use Rattle.bridge.proofs.Numbered.{candidates_fit}
 
 -- ---- the candidates stand under their numbers
 
-candidate-under : (k : ℕ) (x : Announcement) → Under k (candidate_of k x)
+candidate-under : (k : ℕ) (x : Option Announcement) → Under k (candidate_of k x)
 unfolding candidate_of
-candidate-under k Silent = tt
-candidate-under k (Announced precedence hop when) = refl
+candidate-under k None = tt
+candidate-under k (Some a) = refl
 
 from_numbered : (k : ℕ) (ports : List Port) → Numbered k (candidates_from k ports)
 unfolding candidates_from
@@ -77,10 +78,10 @@ fresh_alone setup = refl
 -- ---- one port changes
 
 module _ (capable : Bool) (own : Precedence) (ports : List Port) (i : ℕ) (port : Port) where
-  abbrev before : List Candidate
+  abbrev before : List (Option Candidate)
   before = candidates_of capable own ports
 
-  abbrev after : List Candidate
+  abbrev after : List (Option Candidate)
   after = candidates_of capable own (set ports i port)
 
   -- its candidate, and all others
@@ -101,17 +102,17 @@ module _ (capable : Bool) (own : Precedence) (ports : List Port) (i : ℕ) (port
 same_from : (k : ℕ) (ports : List Port) (i : ℕ) (port : Port) → port.announcement ≡ (port_at ports i).announcement → candidates_from k (set ports i port) ≡ candidates_from k ports
 unfolding candidates_from
 same_from k [] i port e = refl
-same_from k (p ∷ ports) zero port e = ap (λ (x : Announcement). candidate_of k x ∷ candidates_from (suc k) ports) e
+same_from k (p ∷ ports) zero port e = ap (λ (x : Option Announcement). candidate_of k x ∷ candidates_from (suc k) ports) e
 same_from k (p ∷ ports) (suc i) port e = λ j. candidate_of k p.announcement ∷ same_from (suc k) ports i port e j
 
 same_announced : (setup : Setup) (ports : List Port) (i : ℕ) (port : Port) → port.announcement ≡ (port_at ports i).announcement
     → fresh_ranking setup (set ports i port) ≡ fresh_ranking setup ports
-same_announced setup ports i port e = ap (λ (l : List Candidate). ranking_of (own_candidate setup.capable setup.own ∷ l)) (same_from 1 ports i port e)
+same_announced setup ports i port e = ap (λ (l : List (Option Candidate)). ranking_of (own_candidate setup.capable setup.own ∷ l)) (same_from 1 ports i port e)
 
 -- ---- of a lawful state
 
 module _ (b : Bridge) (lawful : Lawful b) where
-  abbrev ranking : List Candidate
+  abbrev ranking : List (Option Candidate)
   ranking = fresh_ranking b.setup b.ports
 
   pub numbered : Numbered 0 (candidates b)
@@ -120,7 +121,7 @@ module _ (b : Bridge) (lawful : Lawful b) where
   pub nine : length (candidates b) ≡ places
   nine = candidates_length b.setup.capable b.setup.own b.ports ∙ ap suc lawful.records
 
-  -- the numbers that it keeps are those of the ranking made afresh
+  -- the ranks that it keeps are those of the ranking made afresh
   pub ranking_keeps : Keeps b.ranking ranking
   ranking_keeps = record {
     is = lawful.ranking_kept;
@@ -136,9 +137,9 @@ module _ (b : Bridge) (lawful : Lawful b) where
   announced_kept i port e = ap (places_of places) (same_announced b.setup b.ports i port e) ∙ sym lawful.ranking_kept
 
   -- what a port announces takes its place in it
-  pub ranking_stored : (i number : ℕ) → i < most_ports → number ≡ i + 1 → (port : Port) (numbers : List ℕ)
-      → Updates number (candidate_of number port.announcement) b.ranking numbers → numbers ≡ (with_port b i port).ranking
-  ranking_stored i number h e port numbers updates =
+  pub ranking_stored : (i number : ℕ) → i < most_ports → number ≡ i + 1 → (port : Port) (ranks : List Rank)
+      → Updates number (candidate_of number port.announcement) b.ranking ranks → ranks ≡ (with_port b i port).ranking
+  ranking_stored i number h e port ranks updates =
       let capable = b.setup.capable in
       let own = b.setup.own in
       let there = changed_there capable own b.ports i port (omega (arith, h, lawful.records)) in
@@ -147,7 +148,7 @@ module _ (b : Bridge) (lawful : Lawful b) where
       updates ranking ranking_keeps (omega (arith, h, e))
       ∙ ap (places_of places)
       (ap (λ (n : ℕ). with_candidate n (candidate_of n port.announcement) ranking) e
-      ∙ ap (λ (c : Candidate). with_candidate (i + 1) c ranking) (sym there)
+      ∙ ap (λ (c : Option Candidate). with_candidate (i + 1) c ranking) (sym there)
       ∙ sym (ranking_changed (candidates b) after numbered (candidates_under capable own (set b.ports i port)) (omega (arith, nine)) (omega (arith, as_many)) (i + 1) (omega (arith, h))
       (changed_others capable own b.ports i port)))
 
@@ -158,9 +159,9 @@ pub state_made : (b : Bridge) → Lawful b → b ≡ with_ports b b.ports
 state_made b lawful = λ j. record { setup = b.setup; links = b.links; ranking = lawful.ranking_kept j; clock = b.clock; ports = b.ports }
 
 -- a record stored, with a ranking that is the one made afresh
-pub stored_made : (b : Bridge) (i : ℕ) (port : Port) (numbers : List ℕ) → numbers ≡ (with_port b i port).ranking
-    → record { setup = b.setup; links = b.links; ranking = numbers; clock = b.clock; ports = set b.ports i port } ≡ with_port b i port
-stored_made b i port numbers e = λ j. record { setup = b.setup; links = b.links; ranking = e j; clock = b.clock; ports = set b.ports i port }
+pub stored_made : (b : Bridge) (i : ℕ) (port : Port) (ranks : List Rank) → ranks ≡ (with_port b i port).ranking
+    → record { setup = b.setup; links = b.links; ranking = ranks; clock = b.clock; ports = set b.ports i port } ≡ with_port b i port
+stored_made b i port ranks e = λ j. record { setup = b.setup; links = b.links; ranking = e j; clock = b.clock; ports = set b.ports i port }
 
 -- and where it announces the same, the ranking that was
 pub stored_kept : (b : Bridge) → Lawful b → (i : ℕ) (port : Port) → port.announcement ≡ (port_at b.ports i).announcement

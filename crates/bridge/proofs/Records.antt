@@ -7,10 +7,13 @@ use native.Mathlib.Omega.{arith}
 use borrow.Author.Tests.{leb-true}
 use lib.Dec.{eqb, leb, lit≤}
 use lib.ListN.{length, set, replicate, length-set}
+use Rattle.std.specs.Prelude.{⊤}
+use Rattle.std.proofs.Common.{Result, Ok, Err}
+use Rattle.refusals.specs.Answer.{granted}
+use Rattle.refusals.specs.declared.Refusal.{Refusal}
 use Rattle.times.specs.Times.{circle}
 use Rattle.frame.specs.Read.{read_of}
-use Rattle.frame.specs.declared.Reading.{Reading}
-use Rattle.frame.specs.declared.Reading.TheVariants as Readings
+use Rattle.frame.specs.declared.Fields.{Fields}
 use Rattle.port.specs.Record.{empty_port, aged_port}
 use Rattle.port.specs.declared.Profile.TheVariants.{Full, Listener}
 use Rattle.port.specs.declared.Port.{Port}
@@ -29,9 +32,9 @@ use Rattle.bridge.specs.Demands.{Call, links, own_clock, receive, age, send, aft
 use Rattle.bridge.specs.Chosen.{chosen_of}
 use Rattle.bridge.specs.declared.Bridge.{Bridge}
 use Rattle.bridge.specs.declared.Done.{Done}
-use Rattle.bridge.specs.declared.Linked.{Linked}
 use Rattle.numbers.proofs.Branches.{if_when}
 use Rattle.times.proofs.TestLaws.{both_hold}
+use Rattle.bridge.proofs.CheckLaws.{granted_when}
 use Rattle.bridge.proofs.Walk.{each_at, each_length}
 
 -- ---- the record at an index
@@ -59,28 +62,28 @@ module _ (b : Bridge) where
   receive_alike : (port : ℕ) (frame : List ℕ) (arrival : ℕ) → Alike b (receive_of b port frame arrival).next
   unfolding receive_of receive_fields_of
   receive_alike port frame arrival =
-      if_when (λ (d : Done). Alike b d.next) (eqb (port_refusal b.setup.n b.links port arrival) 0) (λ _. by (read_of frame)) (λ _. (refl, refl))
+      granted_when (λ (d : Done ⊤). Alike b d.next) (port_refusal b.setup.n b.links port arrival) (λ _. by (read_of frame)) (λ _ _. (refl, refl))
     where
-      by : (r : Reading) → Alike b (read_by (chosen_of b) b (port - 1) r (record { 0 = arrival })).next
-      by (Readings.Refused k) = (refl, refl)
-      by (Readings.Frame f) = (refl, length-set b.ports (port - 1) _)
+      by : (r : Result Fields Refusal) → Alike b (read_by (chosen_of b) b (port - 1) r (record { 0 = arrival })).next
+      by (Err k) = (refl, refl)
+      by (Ok f) = (refl, length-set b.ports (port - 1) _)
 
   -- every call leaves them
   pub after_alike : (c : Call) → Alike b (after b c)
   unfolding links_of own_clock_of age_of send_of
   after_alike (links mask) =
-      if_when (λ (d : Linked). Alike b d.next) (mask_beyond b.setup.n mask) (λ _. (refl, refl))
+      if_when (λ (d : Done ℕ). Alike b d.next) (mask_beyond b.setup.n mask) (λ _. (refl, refl))
       (λ _. (refl, each_length (relinked_port b.links mask) 0 b.ports))
   after_alike (own_clock count byte seconds fraction at) =
-      if_when (λ (d : Done). Alike b d.next) (eqb (own_clock_refusal b.setup.capable seconds fraction at) 0) (λ _. (refl, refl)) (λ _. (refl, refl))
+      granted_when (λ (d : Done ⊤). Alike b d.next) (own_clock_refusal b.setup.capable seconds fraction at) (λ _. (refl, refl)) (λ _ _. (refl, refl))
   after_alike (receive port frame bytes arrival) = receive_alike port frame arrival
   after_alike (age at) =
-      if_when (λ (d : Done). Alike b d.next) (leb circle at) (λ _. (refl, refl))
+      if_when (λ (d : Done ⊤). Alike b d.next) (leb circle at) (λ _. (refl, refl))
       (λ _. (refl, each_length (λ _. aged_port (record { 0 = at }) b.setup.timeout) 0 b.ports))
   after_alike (send port t room) =
-      if_when (λ (d : Done). Alike b d.next) (eqb (send_refusal b.setup.n b.links port t room) 0)
+      granted_when (λ (d : Done ⊤). Alike b d.next) (send_refusal b.setup.n b.links port t room)
       (λ _. (refl, length-set b.ports (port - 1) _))
-      (λ _. (refl, refl))
+      (λ _ _. (refl, refl))
 
 -- ---- calls in a row, from Setup on
 
@@ -93,16 +96,16 @@ fresh_record (suc n) (suc i) = fresh_record n i
 -- every record is empty at first
 setup_record : (s : Setup) (i : ℕ) → port_at (setup_of s).next.ports i ≡ empty_port
 unfolding setup_of
-setup_record s i = if_when (λ (d : Done). port_at d.next.ports i ≡ empty_port) (setup_fits s) (λ _. fresh_record most_ports i) (λ _. fresh_record most_ports i)
+setup_record s i = if_when (λ (d : Done ⊤). port_at d.next.ports i ≡ empty_port) (setup_fits s) (λ _. fresh_record most_ports i) (λ _. fresh_record most_ports i)
 
 setup_length : (s : Setup) → length (setup_of s).next.ports ≡ most_ports
 unfolding setup_of
-setup_length s = if_when (λ (d : Done). length d.next.ports ≡ most_ports) (setup_fits s) (λ _. refl) (λ _. refl)
+setup_length s = if_when (λ (d : Done ⊤). length d.next.ports ≡ most_ports) (setup_fits s) (λ _. refl) (λ _. refl)
 
 pub setup_ports : (s : Setup) → (setup_of s).next.setup.n ≤ most_ports
 unfolding setup_of setup_fits ranges_fit
 setup_ports s =
-    if_when (λ (d : Done). d.next.setup.n ≤ most_ports) (setup_fits s)
+    if_when (λ (d : Done ⊤). d.next.setup.n ≤ most_ports) (setup_fits s)
     (λ e.
     let ranges = (both_hold (profile_fits s.sender.profile s.n s.capable s.sender.back) _ e).1 in
     leb-true _ _ (both_hold (leb s.n most_ports) _ (both_hold (leb 1 s.n) _ ranges).1).0)
@@ -121,13 +124,13 @@ pub full_stays : (s : Setup) (cs : List Call) → s.sender.profile ≡ Full → 
 unfolding setup_of
 full_stays s cs full =
     ap (λ (x : Setup). x.sender.profile) (run_alike (setup_of s).next cs).0
-    ∙ if_when (λ (d : Done). FullBridge d.next) (setup_fits s) (λ _. full) (λ _. refl)
+    ∙ if_when (λ (d : Done ⊤). FullBridge d.next) (setup_fits s) (λ _. full) (λ _. refl)
 
-pub listener_stays : (s : Setup) (cs : List Call) → s.sender.profile ≡ Listener → (setup_of s).answer ≡ 0 → Listens (run (setup_of s).next cs)
+pub listener_stays : (s : Setup) (cs : List Call) → s.sender.profile ≡ Listener → (setup_of s).answer ≡ granted → Listens (run (setup_of s).next cs)
 unfolding setup_of
 listener_stays s cs listens done =
     ap (λ (x : Setup). x.sender.profile) (run_alike (setup_of s).next cs).0
-    ∙ if_when (λ (d : Done). d.answer ≡ 0 → Listens d.next) (setup_fits s) (λ _ _. listens) (λ _ e. absurd (omega (arith, e))) done
+    ∙ if_when (λ (d : Done ⊤). d.answer ≡ granted → Listens d.next) (setup_fits s) (λ _ _. listens) (λ _ e. cc) done
 
 -- there are eight records after any calls
 pub eight_records : (s : Setup) (cs : List Call) → length (run (setup_of s).next cs).ports ≡ most_ports

@@ -8,6 +8,11 @@ use borrow.Author.Tests.{eq-eqb, ne_eqb, lt-ltb, le-ltb}
 use lib.Count.{ones}
 use lib.Dec.{eqb, leb}
 use lib.ListN.{length, set}
+use Rattle.std.specs.Prelude.{⊤}
+use Rattle.std.proofs.Common.{Option, Some, None, Result, Ok, Err}
+use Rattle.refusals.specs.Answer.{granted}
+use Rattle.refusals.specs.declared.Refusal.{Refusal}
+use Rattle.refusals.specs.declared.Refusal.TheVariants.{BadSetup, OutOfRange}
 use Rattle.times.specs.Times.{circle}
 use Rattle.times.specs.declared.LocalTime.{LocalTime}
 use Rattle.samples.specs.Keep.{LawfulSamples}
@@ -17,11 +22,9 @@ use Rattle.timeline.specs.declared.Drift.TheVariants as Drifts
 use Rattle.timeline.specs.Drift.{drift_of}
 use Rattle.choice.specs.Choose.{candidate_of, own_candidate, number_of, chosen_hop}
 use Rattle.choice.specs.Places.{Updates}
-use Rattle.choice.specs.declared.Announcement.TheVariants.{Silent}
 use Rattle.choice.specs.declared.Candidate.{Candidate}
-use Rattle.choice.specs.declared.Candidate.TheVariants as Candidates
+use Rattle.choice.specs.declared.Rank.{Rank}
 use Rattle.frame.specs.Read.{read_of}
-use Rattle.frame.specs.declared.Reading.{Reading}
 use Rattle.frame.specs.declared.Fields.{Fields}
 use Rattle.port.specs.Receive.{received_of}
 use Rattle.port.specs.Record.{empty_port, too_old, aged_port}
@@ -30,13 +33,12 @@ use Rattle.port.specs.Own.{own_reading_of}
 use Rattle.port.specs.Send.{sending_of, sending_done, sending_bytes}
 use Rattle.port.specs.declared.Port.{Port}
 use Rattle.port.specs.declared.OwnClock.{OwnClock}
-use Rattle.port.specs.declared.PortDone.{PortDone}
-use Rattle.port.specs.declared.ClockDone.{ClockDone}
+use Rattle.port.specs.declared.Outcome.{Outcome}
 use Rattle.bridge.specs.Table.{most_ports, each, port_at, samples_at, samples_of_choice, relinked_port}
 use Rattle.bridge.specs.Arguments.{port_refusal, send_refusal, own_clock_refusal, mask_beyond}
 use Rattle.bridge.specs.Fits.{ranges_fit, profile_fits, setup_fits}
 use Rattle.bridge.specs.declared.Setup.{Setup}
-use Rattle.bridge.specs.State.{version_at, with_ports, answers, linked, stores_port, stores_clock, refused_or, Lawful}
+use Rattle.bridge.specs.State.{version_at, with_ports, answers, stores_port, stores_clock, by_refusal, refused_or, Lawful}
 use Rattle.bridge.specs.Setup.{fresh_of, no_bridge, setup_of}
 use Rattle.bridge.specs.Links.{links_of}
 use Rattle.bridge.specs.Own.{own_clock_of}
@@ -47,7 +49,6 @@ use Rattle.bridge.specs.Send.{sending_at, send_of, send_bytes}
 use Rattle.bridge.specs.Drift.{drift_at}
 use Rattle.bridge.specs.declared.Bridge.{Bridge}
 use Rattle.bridge.specs.declared.Done.{Done}
-use Rattle.bridge.specs.declared.LinkCount.TheVariants.{Refused, Up}
 use Rattle.numbers.proofs.Branches.{if_true, if_false}
 use Rattle.port.proofs.PortLaws.{empty_lawful, aged_fresh, send_unchosen}
 use Rattle.bridge.proofs.TableLaws.{best_number, relinked_beyond}
@@ -55,35 +56,35 @@ use Rattle.bridge.proofs.Keeps.{port_kept}
 use Rattle.bridge.proofs.RankingLaws.{ranking_stored, state_made, stored_made}
 use Rattle.bridge.proofs.Walk.{Walked, walked_start, walked_more, walked_same, walked_first}
 
--- ---- a refusal k found before any record is looked at, whose definition is `want`: where it is none, and where it is one
+-- ---- a refusal found before any record is looked at, whose definition is `want`: where it is none, and where it is one
 
-module _ {A : Type 0} (want k : ℕ) (e : k ≡ want) where
-  goes_on : (x y : A) → k ≡ 0 → x ≡ cond (eqb want 0) x y
-  goes_on x y z = if_true (eqb want 0) x y (eq-eqb want 0 (sym e ∙ z))
+module _ {A : Type 0} (want : Result ⊤ Refusal) (x y : A) where
+  goes_on : granted ≡ want → x ≡ by_refusal want x y
+  goes_on e = ap (λ answer. by_refusal answer x y) e
 
-  stops : (x y : A) → (k ≡ 0 → ⊥) → y ≡ cond (eqb want 0) x y
-  stops x y n = if_false (eqb want 0) x y (ne_eqb want 0 (λ z. n (e ∙ z)))
+  stops : (refusal : Refusal) → Err refusal ≡ want → y ≡ by_refusal want x y
+  stops refusal e = ap (λ answer. by_refusal answer x y) e
 
-refuses : (b : Bridge) (want k : ℕ) (x : Done) → k ≡ want → (k ≡ 0 → ⊥) → answers k b ≡ refused_or b want x
-refuses b want k x e n = ap (λ (j : ℕ). answers j b) e ∙ stops want k e x (answers want b) n
+refuses : (b : Bridge) (want : Result ⊤ Refusal) (refusal : Refusal) (x : Done ⊤) → Err refusal ≡ want → answers (Err refusal) b ≡ refused_or b want x
+refuses b want refusal x e = ap (λ answer. refused_or b answer x) e
 
 -- ---- setup
 
 module _ (s : Setup) where
   -- both tests hold, or one does not
-  pub setup_done : profile_fits s.sender.profile s.n s.capable s.sender.back ≡ true → ranges_fit s ≡ true → answers 0 (fresh_of s) ≡ setup_of s
+  pub setup_done : profile_fits s.sender.profile s.n s.capable s.sender.back ≡ true → ranges_fit s ≡ true → answers granted (fresh_of s) ≡ setup_of s
   unfolding setup_of setup_fits
   setup_done profile ranges = if_true (setup_fits s) _ _ (rw (profile, ranges) refl)
 
-  pub setup_refused : setup_fits s ≡ false → answers 1 no_bridge ≡ setup_of s
+  pub setup_refused : setup_fits s ≡ false → answers (Err BadSetup) no_bridge ≡ setup_of s
   unfolding setup_of
   setup_refused e = if_false _ _ _ e
 
-  pub profile_refused : profile_fits s.sender.profile s.n s.capable s.sender.back ≡ false → answers 1 no_bridge ≡ setup_of s
+  pub profile_refused : profile_fits s.sender.profile s.n s.capable s.sender.back ≡ false → answers (Err BadSetup) no_bridge ≡ setup_of s
   unfolding setup_fits
   profile_refused profile = setup_refused (rw profile refl)
 
-  pub ranges_refused : profile_fits s.sender.profile s.n s.capable s.sender.back ≡ true → ranges_fit s ≡ false → answers 1 no_bridge ≡ setup_of s
+  pub ranges_refused : profile_fits s.sender.profile s.n s.capable s.sender.back ≡ true → ranges_fit s ≡ false → answers (Err BadSetup) no_bridge ≡ setup_of s
   unfolding setup_fits
   ranges_refused profile ranges = setup_refused (rw (profile, ranges) refl)
 
@@ -100,11 +101,11 @@ module _ (f : ℕ → Port → Port) (b : Bridge) where
 
   module _ (i : ℕ) (next : Bridge) (s : Stored f b i next) where
     -- one more record is stored, once what it announces has taken its place in the ranking
-    pub stored_more : (q : Port) (numbers : List ℕ) → i < most_ports → q ≡ f i (port_at next.ports i) → LawfulPort q
-        → Updates (i + 1) (candidate_of (i + 1) q.announcement) next.ranking numbers
-        → Stored f b (i + 1) (record { setup = next.setup; links = next.links; ranking = numbers; clock = next.clock; ports = set next.ports i q })
-    stored_more q numbers h e l updates =
-        subst (Stored f b (i + 1)) (sym (stored_made next i q numbers (ranking_stored next s.lawful i (i + 1) h refl q numbers updates)))
+    pub stored_more : (q : Port) (ranks : List Rank) → i < most_ports → q ≡ f i (port_at next.ports i) → LawfulPort q
+        → Updates (i + 1) (candidate_of (i + 1) q.announcement) next.ranking ranks
+        → Stored f b (i + 1) (record { setup = next.setup; links = next.links; ranking = ranks; clock = next.clock; ports = set next.ports i q })
+    stored_more q ranks h e l updates =
+        subst (Stored f b (i + 1)) (sym (stored_made next i q ranks (ranking_stored next s.lawful i (i + 1) h refl q ranks updates)))
         (record {
           rest = ap (λ (x : Bridge). with_ports x (set next.ports i q)) s.rest;
           walked = walked_more f most_ports b.ports i next.ports empty_port q s.walked h e;
@@ -112,12 +113,12 @@ module _ (f : ℕ → Port → Port) (b : Bridge) where
         })
 
     -- one that is emptied announces nothing
-    pub stored_emptied : (q : Port) (numbers : List ℕ) → i < most_ports → q ≡ empty_port → empty_port ≡ f i (port_at next.ports i)
-        → Updates (i + 1) (candidate_of (i + 1) Silent) next.ranking numbers
-        → Stored f b (i + 1) (record { setup = next.setup; links = next.links; ranking = numbers; clock = next.clock; ports = set next.ports i q })
-    stored_emptied q numbers h e empties updates =
-        stored_more q numbers h (e ∙ empties) (subst LawfulPort (sym e) empty_lawful)
-        (subst (λ (p : Port). Updates (i + 1) (candidate_of (i + 1) p.announcement) next.ranking numbers) (sym e) updates)
+    pub stored_emptied : (q : Port) (ranks : List Rank) → i < most_ports → q ≡ empty_port → empty_port ≡ f i (port_at next.ports i)
+        → Updates (i + 1) (candidate_of (i + 1) None) next.ranking ranks
+        → Stored f b (i + 1) (record { setup = next.setup; links = next.links; ranking = ranks; clock = next.clock; ports = set next.ports i q })
+    stored_emptied q ranks h e empties updates =
+        stored_more q ranks h (e ∙ empties) (subst LawfulPort (sym e) empty_lawful)
+        (subst (λ (p : Port). Updates (i + 1) (candidate_of (i + 1) p.announcement) next.ranking ranks) (sym e) updates)
 
     -- a record that is to stay as it is need not be stored
     pub stored_same : i < most_ports → port_at next.ports i ≡ f i (port_at next.ports i) → Stored f b (i + 1) next
@@ -130,16 +131,16 @@ module _ (f : ℕ → Port → Port) (b : Bridge) where
 -- ---- age
 
 module _ (b : Bridge) (at : ℕ) where
-  pub age_refused : leb circle at ≡ true → answers 2 b ≡ age_of b at
+  pub age_refused : leb circle at ≡ true → answers (Err OutOfRange) b ≡ age_of b at
   unfolding age_of
   age_refused e = if_true _ _ _ e
 
   abbrev pub ages_by : ℕ → Port → Port
   ages_by _ = aged_port (record { 0 = at }) b.setup.timeout
 
-  pub age_done : (i : ℕ) (next : Bridge) → leb circle at ≡ false → Stored ages_by b i next → most_ports ≤ i → answers 0 next ≡ age_of b at
+  pub age_done : (i : ℕ) (next : Bridge) → leb circle at ≡ false → Stored ages_by b i next → most_ports ≤ i → answers granted next ≡ age_of b at
   unfolding age_of
-  age_done i next e s h = ap (answers 0) (stored_all ages_by b i next s (λ k m l. absurd (omega arith))) ∙ if_false _ _ _ e
+  age_done i next e s h = ap (answers granted) (stored_all ages_by b i next s (λ k m l. absurd (omega arith))) ∙ if_false _ _ _ e
 
   -- where none of the first i announcements was found too old, their records age by staying as they are
   abbrev pub NoneOld : ℕ → Bool → Type 0
@@ -153,7 +154,7 @@ module _ (b : Bridge) (at : ℕ) where
 -- ---- links
 
 module _ (b : Bridge) (mask : ℕ) where
-  pub links_refused : mask_beyond b.setup.n mask ≡ true → linked Refused b ≡ links_of b mask
+  pub links_refused : mask_beyond b.setup.n mask ≡ true → answers (Err OutOfRange) b ≡ links_of b mask
   unfolding links_of
   links_refused e = if_true _ _ _ e
 
@@ -162,24 +163,24 @@ module _ (b : Bridge) (mask : ℕ) where
 
   -- the records from n on stay, for their ports have no link to lose
   pub links_done : (i : ℕ) (next : Bridge) → mask_beyond b.setup.n mask ≡ false → Stored relinks_by b i next → b.setup.n ≤ i → b.links < 2 ^ b.setup.n
-      → linked (Up (ones mask)) (record { setup = next.setup; links = mask; ranking = next.ranking; clock = next.clock; ports = next.ports }) ≡ links_of b mask
+      → answers (Ok (ones mask)) (record { setup = next.setup; links = mask; ranking = next.ranking; clock = next.clock; ports = next.ports }) ≡ links_of b mask
   unfolding links_of
   links_done i next e s h l =
-      ap (λ (x : Bridge). linked (Up (ones mask)) (record { setup = x.setup; links = mask; ranking = x.ranking; clock = x.clock; ports = x.ports }))
+      ap (λ (x : Bridge). answers (Ok (ones mask)) (record { setup = x.setup; links = mask; ranking = x.ranking; clock = x.clock; ports = x.ports }))
       (stored_all relinks_by b i next s (λ k m _. relinked_beyond b.links mask k _ b.setup.n l (omega arith)))
       ∙ if_false _ _ _ e
 
 -- ---- own clock
 
-module _ (b : Bridge) (count seconds fraction at k : ℕ) (e : k ≡ own_clock_refusal b.setup.capable seconds fraction at) where
-  pub own_refused : (k ≡ 0 → ⊥) → answers k b ≡ own_clock_of b count seconds fraction at
+module _ (b : Bridge) (count seconds fraction at : ℕ) where
+  pub own_refused : (refusal : Refusal) → Err refusal ≡ own_clock_refusal b.setup.capable seconds fraction at → answers (Err refusal) b ≡ own_clock_of b count seconds fraction at
   unfolding own_clock_of
-  own_refused n = refuses b _ k _ e n
+  own_refused refusal e = refuses b _ refusal _ e
 
-  pub own_done : (reading : ClockDone) → k ≡ 0 → reading ≡ own_reading_of count (record { 0 = seconds; 1 = fraction }) (record { 0 = at }) b.clock
-      → stores_clock b reading ≡ own_clock_of b count seconds fraction at
+  pub own_done : (reading : Outcome OwnClock) → granted ≡ own_clock_refusal b.setup.capable seconds fraction at
+      → reading ≡ own_reading_of count (record { 0 = seconds; 1 = fraction }) (record { 0 = at }) b.clock → stores_clock b reading ≡ own_clock_of b count seconds fraction at
   unfolding own_clock_of
-  own_done reading z t = ap (stores_clock b) t ∙ goes_on _ k e _ _ z
+  own_done reading e t = ap (stores_clock b) t ∙ goes_on _ _ _ e
 
 -- ---- receive
 
@@ -189,47 +190,49 @@ pub receive_stores : (b : Bridge) (i : ℕ) (f : Fields) (at : LocalTime)
 unfolding receive_fields_of
 receive_stores b i f at = refl
 
-module _ (b : Bridge) (port : ℕ) (frame : List ℕ) (arrival k : ℕ) (e : k ≡ port_refusal b.setup.n b.links port arrival) where
-  pub receive_refused : (k ≡ 0 → ⊥) → answers k b ≡ receive_of b port frame arrival
+module _ (b : Bridge) (port : ℕ) (frame : List ℕ) (arrival : ℕ) where
+  pub receive_refused : (refusal : Refusal) → Err refusal ≡ port_refusal b.setup.n b.links port arrival → answers (Err refusal) b ≡ receive_of b port frame arrival
   unfolding receive_of
-  receive_refused n = refuses b _ k _ e n
+  receive_refused refusal e = refuses b _ refusal _ e
 
-  pub receive_read : (r : Reading) → k ≡ 0 → r ≡ read_of frame → read_by (chosen_of b) b (port - 1) r (record { 0 = arrival }) ≡ receive_of b port frame arrival
+  pub receive_read : (r : Result Fields Refusal) → granted ≡ port_refusal b.setup.n b.links port arrival → r ≡ read_of frame
+      → read_by (chosen_of b) b (port - 1) r (record { 0 = arrival }) ≡ receive_of b port frame arrival
   unfolding receive_of
-  receive_read r z q = ap (λ (x : Reading). read_by (chosen_of b) b (port - 1) x (record { 0 = arrival })) q ∙ goes_on _ k e _ _ z
+  receive_read r e q = ap (λ (x : Result Fields Refusal). read_by (chosen_of b) b (port - 1) x (record { 0 = arrival })) q ∙ goes_on _ _ _ e
 
 -- ---- send
 
-module _ (b : Bridge) (port t : ℕ) (out : List ℕ) (k : ℕ) (e : k ≡ send_refusal b.setup.n b.links port t (length out)) where
-  pub send_refused : (k ≡ 0 → ⊥) → answers k b ≡ send_of b port t (length out)
+module _ (b : Bridge) (port t : ℕ) (out : List ℕ) where
+  pub send_refused : (refusal : Refusal) → Err refusal ≡ send_refusal b.setup.n b.links port t (length out) → answers (Err refusal) b ≡ send_of b port t (length out)
   unfolding send_of
-  send_refused n = refuses b _ k _ e n
+  send_refused refusal e = refuses b _ refusal _ e
 
-  pub send_untouched : (k ≡ 0 → ⊥) → out ≡ send_bytes b port t out
+  pub send_untouched : (refusal : Refusal) → Err refusal ≡ send_refusal b.setup.n b.links port t (length out) → out ≡ send_bytes b port t out
   unfolding send_bytes
-  send_untouched n = stops _ k e _ _ n
+  send_untouched refusal e = stops _ _ _ refusal e
 
-  pub send_stores : (sent : PortDone) → k ≡ 0 → sent ≡ sending_done (sending_at (chosen_of b) b (port - 1) (record { 0 = t })) (port_at b.ports (port - 1))
-      → stores_port b (port - 1) sent ≡ send_of b port t (length out)
+  pub send_stores : (sent : Outcome Port) → granted ≡ send_refusal b.setup.n b.links port t (length out)
+      → sent ≡ sending_done (sending_at (chosen_of b) b (port - 1) (record { 0 = t })) (port_at b.ports (port - 1)) → stores_port b (port - 1) sent ≡ send_of b port t (length out)
   unfolding send_of
-  send_stores sent z q = ap (stores_port b (port - 1)) q ∙ goes_on _ k e _ _ z
+  send_stores sent e q = ap (stores_port b (port - 1)) q ∙ goes_on _ _ _ e
 
-  pub send_fills : k ≡ 0 → sending_bytes (sending_at (chosen_of b) b (port - 1) (record { 0 = t })) out ≡ send_bytes b port t out
+  pub send_fills : granted ≡ send_refusal b.setup.n b.links port t (length out)
+      → sending_bytes (sending_at (chosen_of b) b (port - 1) (record { 0 = t })) out ≡ send_bytes b port t out
   unfolding send_bytes
-  send_fills z = goes_on _ k e _ _ z
+  send_fills e = goes_on _ _ _ e
 
 -- what a port sends by the chosen clock and the samples of its number: where no clock is chosen the samples do not matter
-pub sending_chosen : (b : Bridge) (i : ℕ) (t : LocalTime) (c : Candidate) (s : Samples) (version : ℕ) → c ≡ chosen_of b → s ≡ samples_at (number_of c) b.clock b.ports
+pub sending_chosen : (b : Bridge) (i : ℕ) (t : LocalTime) (c : Option Candidate) (s : Samples) (version : ℕ) → c ≡ chosen_of b → s ≡ samples_at (number_of c) b.clock b.ports
     → version ≡ version_at b i → sending_of c s b.setup.sender version t (port_at b.ports i) ≡ sending_at (chosen_of b) b i t
 unfolding sending_at samples_of_choice
 sending_chosen b i t c s version e q v =
     go c s q
     ∙ (λ j. sending_of (e j) (samples_of_choice (e j) b.clock b.ports) b.setup.sender (v j) t (port_at b.ports i))
   where
-    go : (c : Candidate) (s : Samples) → s ≡ samples_at (number_of c) b.clock b.ports
+    go : (c : Option Candidate) (s : Samples) → s ≡ samples_at (number_of c) b.clock b.ports
         → sending_of c s b.setup.sender version t (port_at b.ports i) ≡ sending_of c (samples_of_choice c b.clock b.ports) b.setup.sender version t (port_at b.ports i)
-    go Candidates.Nothing s q = send_unchosen Candidates.Nothing s b.setup.sender version t (port_at b.ports i) _
-    go (Candidates.Clock p h n) s q = ap (λ (x : Samples). sending_of (Candidates.Clock p h n) x b.setup.sender version t (port_at b.ports i)) q
+    go None s q = send_unchosen None s b.setup.sender version t (port_at b.ports i) _
+    go (Some chosen) s q = ap (λ (x : Samples). sending_of (Some chosen) x b.setup.sender version t (port_at b.ports i)) q
 
 -- ---- drift
 

@@ -10,12 +10,11 @@ use lib.Dec.{eqb, ltb}
 use lib.ListN.{length, get_or, take, drop}
 use lib.Pow.{pow_mono, shr_lt}
 use lib.Seq.{drop-cons, drop-length, get_or-take, length-take-le}
+use Rattle.std.proofs.Common.{Option, Some, None}
 use Rattle.samples.specs.Keep.{LawfulSamples}
 use Rattle.choice.specs.Choose.{rank_of, candidate_of, better_of, best_of, number_of}
 use Rattle.choice.specs.declared.Announcement.{Announcement}
-use Rattle.choice.specs.declared.Announcement.TheVariants.{Silent, Announced}
 use Rattle.choice.specs.declared.Candidate.{Candidate}
-use Rattle.choice.specs.declared.Candidate.TheVariants.{Nothing, Clock}
 use Rattle.port.specs.Record.{empty_port}
 use Rattle.port.specs.Lawful.{LawfulPort, LawfulClock}
 use Rattle.port.specs.declared.Port.{Port}
@@ -29,7 +28,7 @@ use Rattle.times.proofs.TestLaws.{both_hold}
 -- ---- the choice
 
 -- the number of the choice is that of a candidate
-pub best_number : (k : ℕ) (ports : List Port) (choice : Candidate) → number_of choice ≤ k + length ports → number_of (best_of choice (candidates_from (suc k) ports)) ≤ k + length ports
+pub best_number : (k : ℕ) (ports : List Port) (choice : Option Candidate) → number_of choice ≤ k + length ports → number_of (best_of choice (candidates_from (suc k) ports)) ≤ k + length ports
 unfolding best_of candidates_from candidate_of better_of
 best_number k [] choice h = h
 best_number k (p ∷ ports) choice h =
@@ -37,14 +36,15 @@ best_number k (p ∷ ports) choice h =
     better_number choice (candidate_of (suc k) p.announcement) (omega arith) (candidate_number p.announcement) in
     omega (arith, best_number (suc k) ports (better_of choice (candidate_of (suc k) p.announcement)) l)
   where
-    candidate_number : (h : Announcement) → number_of (candidate_of (suc k) h) ≤ suc k + length ports
-    candidate_number Silent = omega arith
-    candidate_number (Announced q h when) = omega arith
+    candidate_number : (h : Option Announcement) → number_of (candidate_of (suc k) h) ≤ suc k + length ports
+    candidate_number None = omega arith
+    candidate_number (Some a) = omega arith
 
-    better_number : (a b : Candidate) {m : ℕ} → number_of a ≤ m → number_of b ≤ m → number_of (better_of a b) ≤ m
-    better_number Nothing b x y = y
-    better_number (Clock p h i) Nothing x y = x
-    better_number (Clock p h i) (Clock q k j) {m} x y = if_when (λ (c : Candidate). number_of c ≤ m) (ltb (rank_of q k j) (rank_of p h i)) (λ _. y) (λ _. x)
+    better_number : (a b : Option Candidate) {m : ℕ} → number_of a ≤ m → number_of b ≤ m → number_of (better_of a b) ≤ m
+    better_number None b x y = y
+    better_number (Some c) None x y = x
+    better_number (Some c) (Some d) {m} x y =
+        if_when (λ (e : Option Candidate). number_of e ≤ m) (ltb (rank_of d.precedence d.hop d.number) (rank_of c.precedence c.hop c.number)) (λ _. y) (λ _. x)
 
 -- ---- a port whose link changes, or not
 
@@ -85,10 +85,10 @@ unfolding samples_at
 samples_lawful zero clock ports c p = c.samples
 samples_lawful (suc i) clock ports c p = (p i).samples
 
-pub chosen_lawful : (choice : Candidate) (clock : OwnClock) (ports : List Port) → LawfulClock clock → ((i : ℕ) → LawfulPort (port_at ports i)) → LawfulSamples (samples_of_choice choice clock ports)
+pub chosen_lawful : (choice : Option Candidate) (clock : OwnClock) (ports : List Port) → LawfulClock clock → ((i : ℕ) → LawfulPort (port_at ports i)) → LawfulSamples (samples_of_choice choice clock ports)
 unfolding samples_of_choice
-chosen_lawful Nothing clock ports c p = tt
-chosen_lawful (Clock q h n) clock ports c p = samples_lawful n clock ports c p
+chosen_lawful None clock ports c p = tt
+chosen_lawful (Some chosen) clock ports c p = samples_lawful chosen.number clock ports c p
 
 -- ---- a test of the first n elements
 

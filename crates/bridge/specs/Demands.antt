@@ -155,10 +155,10 @@ pub record AtDeparture (b : Bridge) (t : ℕ) (bytes : List ℕ) : Type 0 where
 -- what Read gives of a sent frame is exactly the fields of the rules: for the chosen clock, with the grand time and errorTime read off its samples
 pub record SentFields (b : Bridge) (port t : ℕ) (sent : List ℕ) : Type 0 where
   pub clock : Candidate
-  pub time : Sent
+  pub times : Sent
   pub chosen : chosen_of b ≡ Some clock
-  pub read_off : sent_of (chosen_samples b) (record { 0 = t }) b.setup.sender.back (stretch_of (version_at b (port - 1)) b.setup.sender.back) ≡ Ok time
-  pub read : read_of sent ≡ Ok (frame_of b.setup.sender (version_at b (port - 1)) clock.precedence clock.hop (record { 0 = t }) time.grand time.error (port_at b.ports (port - 1)))
+  pub read_off : sent_of (chosen_samples b) (record { 0 = t }) b.setup.sender.back (stretch_of (version_at b (port - 1)) b.setup.sender.back) ≡ Ok times
+  pub read : read_of sent ≡ Ok (frame_of b.setup.sender (version_at b (port - 1)) clock.precedence clock.hop (record { 0 = t }) times.grand times.error (port_at b.ports (port - 1)))
 
 -- ---- drift
 
