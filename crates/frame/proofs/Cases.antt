@@ -6,13 +6,12 @@ use native.Mathlib.Nat.{le_of_eq}
 use lib.ListN.{take, drop}
 use borrow.Author.Tests.{le-ltb}
 use denote.Ref.{Bor}
+use Rattle.std.proofs.Common.{Some, Ok}
 use Rattle.choice.specs.Precedence.{precedence_of, key_of}
-use Rattle.choice.specs.declared.Precedence.{Precedence}
 use Rattle.frame.specs.Read.{read_of}
 use Rattle.frame.specs.Better.{winner_of, piece_by, better_part_of}
 use Rattle.frame.specs.declared.Fields.{Fields}
-use Rattle.frame.specs.declared.Reading.TheVariants.{Frame}
-use Rattle.frame.specs.declared.Standing.TheVariants.{Stands}
+use Rattle.frame.specs.declared.Standing.{Standing}
 use Rattle.frame.specs.declared.Winner.TheVariants.{Neither, First, Second}
 use Rattle.numbers.proofs.Branches.{if_false}
 use Rattle.frame.proofs.FrameLaws.{other_stands}
@@ -31,12 +30,12 @@ second_part a b = refl
 -- ---- a tie
 
 -- equal keys: the first wins
-tie_winner : (p q : Precedence) (h k : ℕ) → key_of p h ≡ key_of q k → winner_of (Stands p h) (Stands q k) ≡ First
+tie_winner : (x y : Standing) → key_of x.precedence x.hop ≡ key_of y.precedence y.hop → winner_of (Some x) (Some y) ≡ First
 unfolding winner_of
-tie_winner p q h k e = sym (if_false _ _ _ (le-ltb _ _ (le_of_eq e)))
+tie_winner x y e = sym (if_false _ _ _ (le-ltb _ _ (le_of_eq e)))
 
 -- two good frames with the same precedence and hop: the first one's 13 bytes, as they stand in it
-pub tie_first : (a b : Bor (List ℕ)) (f g : Fields) → read_of a.now ≡ Frame f → read_of b.now ≡ Frame g
+pub tie_first : (a b : Bor (List ℕ)) (f g : Fields) → read_of a.now ≡ Ok f → read_of b.now ≡ Ok g
     → precedence_of f.precedence ≡ precedence_of g.precedence → f.hop ≡ g.hop → (f.hop ≡ 255 → ⊥)
     → better_part_of a b ≡ ((a.ref_ptr.0, 16 + a.ref_ptr.1), take 13 (drop 16 a.now))
 unfolding key_of
@@ -45,4 +44,4 @@ tie_first a b f g d e same hops low =
     let y = other_stands b.now g (sym e) (λ last. low (hops ∙ last)) in
     let key : key_of f.precedence f.hop ≡ key_of g.precedence g.hop = λ i. same i * 256 + hops i in
     (λ i. piece_by (winner_of (sym x i) (sym y i)) a b)
-    ∙ ap (λ w. piece_by w a b) (tie_winner f.precedence g.precedence f.hop g.hop key)
+    ∙ ap (λ w. piece_by w a b) (tie_winner (record { precedence = f.precedence; hop = f.hop }) (record { precedence = g.precedence; hop = g.hop }) key)

@@ -3,31 +3,33 @@ use mathlib.Core.Path.{◌≡◌, refl, sym, ap, ◌∙◌}
 use mathlib.Core.Bool.{Bool, true, false, cond, ◌||◌, true≢false, false≢true}
 use mathlib.Core.List.{List}
 use mathlib.Core.Logic.{◌⊎◌, inl, inr, ⊎_elim}
-use Prim.Native.Nat.{ℕ, zero, suc, ◌<◌, ◌≤◌}
+use Prim.Native.Nat.{ℕ, suc, ◌<◌, ◌≤◌}
 use native.Mathlib.Omega.{arith}
 use lib.Dec.{ltb, leb, eqb}
 use lib.ListN.{length, drop, get_or}
 use borrow.Author.Tests.{eq-eqb, ne_eqb, eqb-true, eqb-false, ltb-true, leb-true, lt-ltb, le-leb}
+use Rattle.std.proofs.Common.{Option, Some, None, Result, Ok, Err}
+use Rattle.std.specs.Bool.{⊤}
 use Rattle.refusals.specs.Chain.{unless, carried}
+use Rattle.refusals.specs.Refusals.{number_of}
+use Rattle.refusals.specs.Answer.{answer_number, answer_value, granted, require}
+use Rattle.refusals.specs.declared.Refusal.{Refusal}
+use Rattle.refusals.specs.declared.Refusal.TheVariants.{OutOfRange, WrongLength, WrongConstant, WrongVersion}
 use Rattle.numbers.specs.Table.{parted}
 use Rattle.choice.specs.Hop.{last_hop}
 use Rattle.times.specs.Times.{second, circle}
 use Rattle.choice.specs.Precedence.{key_of}
-use Rattle.choice.specs.declared.Precedence.{Precedence}
 use Rattle.frame.specs.Frame.{frame_length, station_address, local_experimental, time_sync, first_version, second_version, is_version, fields_of}
-use Rattle.frame.specs.Read.{rows_of, constants_refusal, read_refusal, read_as, read_of, read_no, read_fields_of}
+use Rattle.frame.specs.Read.{rows_of, constants_refusal, read_refusal, read_as, read_of}
 use Rattle.frame.specs.Values.{bytes_refusal, fields_at}
 use Rattle.frame.specs.Write.{write_refusal, bytes_of, written_as, written_of}
 use Rattle.frame.specs.Better.{standing_by, standing_of, winner_of}
 use Rattle.frame.specs.Promises.{ReadPromise}
 use Rattle.frame.specs.declared.Fields.{Fields}
-use Rattle.frame.specs.declared.Reading.{Reading}
-use Rattle.frame.specs.declared.Reading.TheVariants.{Frame, Refused}
 use Rattle.frame.specs.declared.Standing.{Standing}
-use Rattle.frame.specs.declared.Standing.TheVariants.{Loses, Stands}
 use Rattle.frame.specs.declared.Winner.TheVariants.{First, Second}
 
--- ---- a chain of tests
+-- ---- a chain of tests that gives a number
 
 -- a test that holds leaves the answer to the rest
 pub past : (b : Bool) (k : ℕ) {m n : ℕ} → b ≡ true → m ≡ n → m ≡ unless b k n
@@ -48,6 +50,33 @@ none false k n e = absurd (omega arith)
 pub unless_is : (P : ℕ → Type 0) (t : Bool) {k n : ℕ} → P k → P n → P (unless t k n)
 unless_is P true p q = q
 unless_is P false p q = p
+
+-- ---- a chain of tests that gives an answer
+
+-- a test that holds leaves the answer to the rest
+pub require_past : {A : Type 0} (b : Bool) (k : Refusal) {x y : Result A Refusal} → b ≡ true → x ≡ y → x ≡ require b k y
+require_past true k h e = e
+require_past false k h e = absurd (false≢true h)
+
+-- a test that fails refuses
+pub require_stopped : {A : Type 0} (b : Bool) (k : Refusal) (rest : Result A Refusal) → b ≡ false → Err k ≡ require b k rest
+require_stopped true k rest h = absurd (true≢false h)
+require_stopped false k rest h = refl
+
+-- where a value is given, the test held and the rest gave it
+pub require_none : {A : Type 0} (b : Bool) (k : Refusal) (rest : Result A Refusal) {v : A} → require b k rest ≡ Ok v → (b ≡ true) × (rest ≡ Ok v)
+require_none true k rest e = (refl, e)
+require_none false k rest e = cc
+
+-- what holds of a refusal and of what is answered else holds either way
+pub require_is : {A : Type 0} (P : Result A Refusal → Type 0) (t : Bool) {k : Refusal} {rest : Result A Refusal} → P (Err k) → P rest → P (require t k rest)
+require_is P true p q = q
+require_is P false p q = p
+
+-- the number of such a chain, by that of its rest
+pub require_as : {A : Type 0} (t : Bool) (k : Refusal) (rest : Result A Refusal) {n : ℕ} → answer_number rest ≡ n → answer_number (require t k rest) ≡ unless t (number_of k) n
+require_as true k rest e = e
+require_as false k rest e = refl
 
 -- ---- the version
 
@@ -75,16 +104,16 @@ pub record Accepted (s : List ℕ) : Type 0 where
   pub byte31 : get_or (rows_of s) 17 0 ≡ 0
   pub version : is_version (get_or (rows_of s) 9 0) ≡ true
 
-pub accepted : (s : List ℕ) → read_refusal s ≡ 0 → Accepted s
+pub accepted : (s : List ℕ) → read_refusal s ≡ granted → Accepted s
 unfolding read_refusal
 accepted s e =
     let vs = rows_of s in
-    let a = none (eqb (length s) frame_length) 3 _ e in
-    let b = none (eqb (get_or vs 0 0) station_address) 4 _ a.1 in
-    let c = none (eqb (get_or vs 7 0) local_experimental) 4 _ b.1 in
-    let d = none (eqb (get_or vs 8 0) time_sync) 4 _ c.1 in
-    let f = none (eqb (get_or vs 17 0) 0) 4 _ d.1 in
-    let g = none (is_version (get_or vs 9 0)) 5 _ f.1 in
+    let a = require_none (eqb (length s) frame_length) WrongLength _ e in
+    let b = require_none (eqb (get_or vs 0 0) station_address) WrongConstant _ a.1 in
+    let c = require_none (eqb (get_or vs 7 0) local_experimental) WrongConstant _ b.1 in
+    let d = require_none (eqb (get_or vs 8 0) time_sync) WrongConstant _ c.1 in
+    let f = require_none (eqb (get_or vs 17 0) 0) WrongConstant _ d.1 in
+    let g = require_none (is_version (get_or vs 9 0)) WrongVersion _ f.1 in
     record {
       sized = eqb-true _ _ a.0;
       da = eqb-true _ _ b.0;
@@ -95,76 +124,78 @@ accepted s e =
     }
 
 -- the refusals of a wrong length, and of the rows of a right one
-pub short : (s : List ℕ) → (length s ≡ frame_length → ⊥) → 4 ≡ read_refusal s
+pub short : (s : List ℕ) → (length s ≡ frame_length → ⊥) → Err WrongLength ≡ read_refusal s
 unfolding read_refusal
-short s h = stopped _ 4 _ (ne_eqb _ _ h)
+short s h = require_stopped _ WrongLength _ (ne_eqb _ _ h)
 
 pub by_rows : (s vs : List ℕ) → length s ≡ frame_length → vs ≡ rows_of s → constants_refusal vs ≡ read_refusal s
 unfolding read_refusal
-by_rows s vs l e = past _ 4 (eq-eqb _ _ l) (ap constants_refusal e)
+by_rows s vs l e = require_past _ WrongLength (eq-eqb _ _ l) (ap constants_refusal e)
 
--- what the refusal k makes of a frame
-pub refused : (k : ℕ) (s : List ℕ) → k ≡ read_refusal s → (k ≡ 0 → ⊥) → Refused k ≡ read_of s
+-- what a refusal makes of a frame, and what is made of one that is not refused
+pub refused : (k : Refusal) (s : List ℕ) → Err k ≡ read_refusal s → Err k ≡ read_of s
 unfolding read_of
-refused zero s e h = absurd (h refl)
-refused (suc k) s e h = ap (λ (n : ℕ). read_as n (rows_of s)) e
+refused k s e = ap (λ r. read_as r (rows_of s)) e
 
-pub framed : (k : ℕ) (s : List ℕ) → k ≡ read_refusal s → k ≡ 0 → Frame (fields_of (rows_of s)) ≡ read_of s
+pub framed : (s : List ℕ) → granted ≡ read_refusal s → Ok (fields_of (rows_of s)) ≡ read_of s
 unfolding read_of
-framed k s e h = ap (λ (n : ℕ). read_as n (rows_of s)) (sym h ∙ e)
+framed s e = ap (λ r. read_as r (rows_of s)) e
 
 -- each row stands at its bytes: the constants that are tested, and the fields
-pub refusal_at : (s : List ℕ) → read_refusal s ≡ bytes_refusal s
+pub refusal_at : (s : List ℕ) → answer_number (read_refusal s) ≡ bytes_refusal s
 unfolding read_refusal parted
-refusal_at s = refl
+refusal_at s =
+    let vs = rows_of s in
+    require_as (eqb (length s) frame_length) WrongLength _
+    (require_as (eqb (get_or vs 0 0) station_address) WrongConstant _
+    (require_as (eqb (get_or vs 7 0) local_experimental) WrongConstant _
+    (require_as (eqb (get_or vs 8 0) time_sync) WrongConstant _
+    (require_as (eqb (get_or vs 17 0) 0) WrongConstant _ (require_as (is_version (get_or vs 9 0)) WrongVersion granted refl)))))
 
 pub fields-at : (s : List ℕ) → fields_of (rows_of s) ≡ fields_at s
 unfolding parted
 fields-at s = refl
 
--- the number of what is read, and the fields that it carries
-pub read_number : (s : List ℕ) (r : Reading) → r ≡ read_of s → read_no r ≡ read_refusal s
-unfolding read_of
-read_number s r e = ap read_no e ∙ by (read_refusal s)
-  where
-    by : (k : ℕ) → read_no (read_as k (rows_of s)) ≡ k
-    by zero = refl
-    by (suc k) = refl
-
-pub read-fields : (s : List ℕ) (r : Reading) → r ≡ read_of s → read_fields_of r ≡ carried (read_refusal s) (fields_of (rows_of s))
-unfolding read_of
-read-fields s r e = ap read_fields_of e ∙ by (read_refusal s)
-  where
-    by : (k : ℕ) → read_fields_of (read_as k (rows_of s)) ≡ carried k (fields_of (rows_of s))
-    by zero = refl
-    by (suc k) = refl
-
--- what is read is as wanted, and so are both
-pub promised : (s : List ℕ) (r : Reading) → r ≡ read_of s → ReadPromise s r
-promised s r e = record {
-  answer = e;
-  number = read_number s r e ∙ refusal_at s;
-  fields = read-fields s r e ∙ (λ i. carried (refusal_at s i) (fields-at s i));
-}
-
--- what a frame that is read was
-pub reading : (s : List ℕ) (f : Fields) → read_of s ≡ Frame f → (read_refusal s ≡ 0) × (fields_of (rows_of s) ≡ f)
-unfolding read_of
-reading s f e = by (read_refusal s) refl where
-  by : (k : ℕ) → read_refusal s ≡ k → (read_refusal s ≡ 0) × (fields_of (rows_of s) ≡ f)
-  by zero r = let q : read_as 0 (rows_of s) ≡ read_of s = ap (λ (n : ℕ). read_as n (rows_of s)) (sym r) in (r, (cc))
-  by (suc k) r = let q : read_as (suc k) (rows_of s) ≡ read_of s = ap (λ (n : ℕ). read_as n (rows_of s)) (sym r) in
-      let z : ◌≡◌ {A = ℕ} 0 1 = cc in absurd (omega arith)
-
--- what holds of 4, 5, 6 and 0 holds of the answer to a frame
-pub read_is : (P : ℕ → Type 0) (s : List ℕ) → P 4 → P 5 → P 6 → P 0 → P (read_refusal s)
+-- what holds of these three refusals and of none holds of the answer to a frame
+pub read_is : (P : Result ⊤ Refusal → Type 0) (s : List ℕ) → P (Err WrongLength) → P (Err WrongConstant) → P (Err WrongVersion) → P granted → P (read_refusal s)
 unfolding read_refusal
 read_is P s p q r z =
     let vs = rows_of s in
-    unless_is P (eqb (length s) frame_length) p
-    (unless_is P (eqb (get_or vs 0 0) station_address) q
-    (unless_is P (eqb (get_or vs 7 0) local_experimental) q
-    (unless_is P (eqb (get_or vs 8 0) time_sync) q (unless_is P (eqb (get_or vs 17 0) 0) q (unless_is P (is_version (get_or vs 9 0)) r z)))))
+    require_is P (eqb (length s) frame_length) p
+    (require_is P (eqb (get_or vs 0 0) station_address) q
+    (require_is P (eqb (get_or vs 7 0) local_experimental) q
+    (require_is P (eqb (get_or vs 8 0) time_sync) q (require_is P (eqb (get_or vs 17 0) 0) q (require_is P (is_version (get_or vs 9 0)) r z)))))
+
+-- the number of what is read, and the fields that it carries
+pub read_number : (s : List ℕ) (r : Result Fields Refusal) → r ≡ read_of s → answer_number r ≡ answer_number (read_refusal s)
+unfolding read_of
+read_number s r e = ap answer_number e ∙ by (read_refusal s)
+  where
+    by : (x : Result ⊤ Refusal) → answer_number (read_as x (rows_of s)) ≡ answer_number x
+    by (Ok _) = refl
+    by (Err k) = refl
+
+pub read-fields : (s : List ℕ) (r : Result Fields Refusal) → r ≡ read_of s → answer_value r ≡ carried (answer_number (read_refusal s)) (fields_of (rows_of s))
+unfolding read_of
+read-fields s r e =
+    let vs = rows_of s in
+    ap answer_value e ∙ read_is (λ x. answer_value (read_as x vs) ≡ carried (answer_number x) (fields_of vs)) s refl refl refl refl
+
+-- what is read is as wanted, and so are both
+pub promised : (s : List ℕ) (r : Result Fields Refusal) → r ≡ read_of s → ReadPromise s r
+promised s r e = record {
+  answer = e;
+  number = read_number s r e ∙ refusal_at s;
+  value = read-fields s r e ∙ (λ i. carried (refusal_at s i) (fields-at s i));
+}
+
+-- what a frame that is read was
+pub reading : (s : List ℕ) (f : Fields) → read_of s ≡ Ok f → (read_refusal s ≡ granted) × (fields_of (rows_of s) ≡ f)
+unfolding read_of
+reading s f e = by (read_refusal s) e where
+  by : (x : Result ⊤ Refusal) → read_as x (rows_of s) ≡ Ok f → (x ≡ granted) × (fields_of (rows_of s) ≡ f)
+  by (Ok _) q = (refl, (cc))
+  by (Err k) q = cc
 
 -- ---- write
 
@@ -178,16 +209,16 @@ pub record Written (f : Fields) (n : ℕ) : Type 0 where
   pub room : frame_length ≤ n
   pub version : is_version f.version ≡ true
 
-pub in_range : (f : Fields) (n : ℕ) → write_refusal f n ≡ 0 → Written f n
+pub in_range : (f : Fields) (n : ℕ) → write_refusal f n ≡ granted → Written f n
 unfolding write_refusal
 in_range f n e =
-    let a = none (ltb f.grand.0 second) 1 _ e in
-    let b = none (ltb f.grand.1 second) 1 _ a.1 in
-    let c = none (ltb f.local.0 circle) 1 _ b.1 in
-    let d = none (ltb f.tx.0 circle) 1 _ c.1 in
-    let g = none (ltb f.rx.0 circle) 1 _ d.1 in
-    let h = none (leb frame_length n) 3 _ g.1 in
-    let v = none (is_version f.version) 5 _ h.1 in
+    let a = require_none (ltb f.grand.0 second) OutOfRange _ e in
+    let b = require_none (ltb f.grand.1 second) OutOfRange _ a.1 in
+    let c = require_none (ltb f.local.0 circle) OutOfRange _ b.1 in
+    let d = require_none (ltb f.tx.0 circle) OutOfRange _ c.1 in
+    let g = require_none (ltb f.rx.0 circle) OutOfRange _ d.1 in
+    let h = require_none (leb frame_length n) WrongLength _ g.1 in
+    let v = require_none (is_version f.version) WrongVersion _ h.1 in
     record {
       seconds = ltb-true _ _ a.0;
       fraction = ltb-true _ _ b.0;
@@ -198,80 +229,82 @@ in_range f n e =
       version = v.0;
     }
 
-pub unrefused : (f : Fields) (n : ℕ) → Written f n → write_refusal f n ≡ 0
+pub unrefused : (f : Fields) (n : ℕ) → Written f n → write_refusal f n ≡ granted
 unfolding write_refusal
 unrefused f n w =
     sym
-    (past _ 2 (lt-ltb _ _ w.seconds)
-    (past _ 2 (lt-ltb _ _ w.fraction)
-    (past _ 2 (lt-ltb _ _ w.local)
-    (past _ 2 (lt-ltb _ _ w.tx)
-    (past _ 2 (lt-ltb _ _ w.rx)
-    (past _ 4 (le-leb _ _ w.room)
-    (past _ 6 w.version refl)))))))
+    (require_past _ OutOfRange (lt-ltb _ _ w.seconds)
+    (require_past _ OutOfRange (lt-ltb _ _ w.fraction)
+    (require_past _ OutOfRange (lt-ltb _ _ w.local)
+    (require_past _ OutOfRange (lt-ltb _ _ w.tx)
+    (require_past _ OutOfRange (lt-ltb _ _ w.rx)
+    (require_past _ WrongLength (le-leb _ _ w.room)
+    (require_past _ WrongVersion w.version refl)))))))
 
--- what holds of 2, 4, 6 and 0 holds of the answer to fields
-pub write_is : (P : ℕ → Type 0) (f : Fields) (n : ℕ) → P 2 → P 4 → P 6 → P 0 → P (write_refusal f n)
+-- what holds of these three refusals and of none holds of the answer to fields
+pub write_is : (P : Result ⊤ Refusal → Type 0) (f : Fields) (n : ℕ) → P (Err OutOfRange) → P (Err WrongLength) → P (Err WrongVersion) → P granted → P (write_refusal f n)
 unfolding write_refusal
 write_is P f n p q r z =
-    unless_is P (ltb f.grand.0 second) p
-    (unless_is P (ltb f.grand.1 second) p
-    (unless_is P (ltb f.local.0 circle) p
-    (unless_is P (ltb f.tx.0 circle) p (unless_is P (ltb f.rx.0 circle) p (unless_is P (leb frame_length n) q (unless_is P (is_version f.version) r z))))))
+    require_is P (ltb f.grand.0 second) p
+    (require_is P (ltb f.grand.1 second) p
+    (require_is P (ltb f.local.0 circle) p
+    (require_is P (ltb f.tx.0 circle) p (require_is P (ltb f.rx.0 circle) p (require_is P (leb frame_length n) q (require_is P (is_version f.version) r z))))))
 
--- what the refusal k makes of the output
-pub filled : (f : Fields) (k : ℕ) (out : List ℕ) → k ≡ write_refusal f (length out) → k ≡ 0 → bytes_of f (drop frame_length out) ≡ written_of f out
+-- what is made of the output where nothing is refused, and where something is
+pub filled : (f : Fields) (out : List ℕ) → granted ≡ write_refusal f (length out) → bytes_of f (drop frame_length out) ≡ written_of f out
 unfolding written_of
-filled f k out e h = ap (λ (n : ℕ). written_as n f out) (sym h ∙ e)
+filled f out e = ap (λ r. written_as r f out) e
 
-pub untouched : (f : Fields) (k : ℕ) (out : List ℕ) → k ≡ write_refusal f (length out) → (k ≡ 0 → ⊥) → out ≡ written_of f out
+pub untouched : (f : Fields) (k : Refusal) (out : List ℕ) → Err k ≡ write_refusal f (length out) → out ≡ written_of f out
 unfolding written_of
-untouched f zero out e h = absurd (h refl)
-untouched f (suc k) out e h = ap (λ (n : ℕ). written_as n f out) e
+untouched f k out e = ap (λ r. written_as r f out) e
 
 -- ---- better
 
 -- what is refused loses; what is read loses with the last hop, and stands by its precedence and hop with another
-pub refused_loses : (s : List ℕ) (k : ℕ) → Refused k ≡ read_of s → Loses ≡ standing_of s
+pub refused_loses : (s : List ℕ) (k : Refusal) → Err k ≡ read_of s → None ≡ standing_of s
 unfolding standing_of
 refused_loses s k e = ap standing_by e
 
-by_hop : (s : List ℕ) (f : Fields) → Frame f ≡ read_of s → {b : Bool} → b ≡ eqb f.hop last_hop → cond b Loses (Stands f.precedence f.hop) ≡ standing_of s
-unfolding standing_of
-by_hop s f e q = ap (λ (t : Bool). cond t Loses (Stands f.precedence f.hop)) q ∙ ap standing_by e
+-- how a frame that is read stands, where it does not lose
+abbrev pub stands : Fields → Option Standing
+stands f = Some (record { precedence = f.precedence; hop = f.hop })
 
-pub last_loses : (s : List ℕ) (f : Fields) → Frame f ≡ read_of s → f.hop ≡ last_hop → Loses ≡ standing_of s
+by_hop : (s : List ℕ) (f : Fields) → Ok f ≡ read_of s → {b : Bool} → b ≡ eqb f.hop last_hop → cond b None (stands f) ≡ standing_of s
+unfolding standing_of
+by_hop s f e q = ap (λ (t : Bool). cond t None (stands f)) q ∙ ap standing_by e
+
+pub last_loses : (s : List ℕ) (f : Fields) → Ok f ≡ read_of s → f.hop ≡ last_hop → None ≡ standing_of s
 last_loses s f e h = by_hop s f e (sym (eq-eqb _ _ h))
 
-pub other_stands : (s : List ℕ) (f : Fields) → Frame f ≡ read_of s → (f.hop ≡ last_hop → ⊥) → Stands f.precedence f.hop ≡ standing_of s
+pub other_stands : (s : List ℕ) (f : Fields) → Ok f ≡ read_of s → (f.hop ≡ last_hop → ⊥) → stands f ≡ standing_of s
 other_stands s f e h = by_hop s f e (sym (ne_eqb _ _ h))
 
 -- a frame that does not lose has its 64 bytes
-sized_or_loses : (s : List ℕ) → (length s ≡ frame_length) ⊎ (standing_of s ≡ Loses)
+sized_or_loses : (s : List ℕ) → (length s ≡ frame_length) ⊎ (standing_of s ≡ None)
 sized_or_loses s = by (eqb (length s) frame_length) refl where
-  by : (b : Bool) → eqb (length s) frame_length ≡ b → (length s ≡ frame_length) ⊎ (standing_of s ≡ Loses)
+  by : (b : Bool) → eqb (length s) frame_length ≡ b → (length s ≡ frame_length) ⊎ (standing_of s ≡ None)
   by true e = inl (eqb-true _ _ e)
-  by false e = inr (sym (refused_loses s 4 (refused 4 s (short s (eqb-false _ _ e)) (λ z. omega arith))))
+  by false e = inr (sym (refused_loses s WrongLength (refused WrongLength s (short s (eqb-false _ _ e)))))
 
 -- and so does not win
-loses_first : (y : Standing) → First ≡ winner_of Loses y → ⊥
+loses_first : (y : Option Standing) → First ≡ winner_of None y → ⊥
 unfolding winner_of
-loses_first Loses e = let z : ◌≡◌ {A = ℕ} 0 1 = cc in omega arith
-loses_first (Stands q k) e = let z : ◌≡◌ {A = ℕ} 0 1 = cc in omega arith
+loses_first None e = cc
+loses_first (Some y) e = cc
 
-loses_second : (x : Standing) → Second ≡ winner_of x Loses → ⊥
+loses_second : (x : Option Standing) → Second ≡ winner_of x None → ⊥
 unfolding winner_of
-loses_second Loses e = let z : ◌≡◌ {A = ℕ} 0 1 = cc in omega arith
-loses_second (Stands p h) e = let z : ◌≡◌ {A = ℕ} 0 1 = cc in omega arith
+loses_second None e = cc
+loses_second (Some x) e = cc
 
-pub first_sized : (s : List ℕ) (y : Standing) → First ≡ winner_of (standing_of s) y → length s ≡ frame_length
-first_sized s y e = ⊎_elim (λ l. l) (λ l. absurd (loses_first y (e ∙ ap (λ (x : Standing). winner_of x y) l))) (sized_or_loses s)
+pub first_sized : (s : List ℕ) (y : Option Standing) → First ≡ winner_of (standing_of s) y → length s ≡ frame_length
+first_sized s y e = ⊎_elim (λ l. l) (λ l. absurd (loses_first y (e ∙ ap (λ (x : Option Standing). winner_of x y) l))) (sized_or_loses s)
 
-pub second_sized : (s : List ℕ) (x : Standing) → Second ≡ winner_of x (standing_of s) → length s ≡ frame_length
+pub second_sized : (s : List ℕ) (x : Option Standing) → Second ≡ winner_of x (standing_of s) → length s ≡ frame_length
 second_sized s x e = ⊎_elim (λ l. l) (λ l. absurd (loses_second x (e ∙ ap (winner_of x) l))) (sized_or_loses s)
 
 -- two that stand: the lesser key wins, the first on a tie
-pub by_key : {x y : Standing} {p q : Precedence} {h k : ℕ} {b : Bool} → x ≡ Stands p h → y ≡ Stands q k → ltb (key_of q k) (key_of p h) ≡ b
-    → cond b Second First ≡ winner_of x y
+pub by_key : (x y : Standing) {b : Bool} → ltb (key_of y.precedence y.hop) (key_of x.precedence x.hop) ≡ b → cond b Second First ≡ winner_of (Some x) (Some y)
 unfolding winner_of
-by_key d e t = ap (λ (b : Bool). cond b Second First) (sym t) ∙ (λ i. winner_of (sym d i) (sym e i))
+by_key x y t = ap (λ (b : Bool). cond b Second First) (sym t)

@@ -1,3 +1,4 @@
+pub mod RowLaws
 pub mod FrameLaws
 pub mod Trip
 pub mod Cases

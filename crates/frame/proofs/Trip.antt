@@ -7,6 +7,9 @@ use native.Mathlib.Omega.{arith}
 use lib.Dec.{lit<, lit≤}
 use lib.ListN.{length, take, drop, get_or, length-append}
 use lib.Seq.{take_all, take_at}
+use Rattle.std.proofs.Common.{Ok}
+use Rattle.refusals.specs.Answer.{granted}
+use Rattle.refusals.specs.declared.Refusal.TheVariants.{WrongVersion}
 use Rattle.numbers.specs.Bytes.{onto, number_at, number_bytes, Bytes}
 use Rattle.numbers.specs.Table.{total, parted, joined, Held}
 use Rattle.times.specs.Times.{units, InRange}
@@ -17,10 +20,9 @@ use Rattle.frame.specs.Write.{write_refusal, bytes_of, written_of}
 use Rattle.frame.specs.Better.{precedence_start, precedence_bytes}
 use Rattle.frame.specs.Demands.{Typed}
 use Rattle.frame.specs.declared.Fields.{Fields}
-use Rattle.frame.specs.declared.Reading.TheVariants.{Frame}
 use Rattle.numbers.proofs.Places.{number_add, onto_append, onto_split, length_digits, value_digits}
 use Rattle.numbers.proofs.Table.{held_at, held_parted, length_joined, joined_bytes, joined_append, joined_parted, parted_joined, drop_joined}
-use Rattle.frame.proofs.FrameLaws.{past, Accepted, accepted, by_rows, framed, reading, Written, in_range, unrefused, filled}
+use Rattle.frame.proofs.FrameLaws.{require_past, Accepted, accepted, by_rows, framed, reading, Written, in_range, unrefused, filled}
 
 -- ---- read, then written
 
@@ -58,16 +60,16 @@ rows_joined s t b a =
     ∙ ap (λ (l : List ℕ). l ++ t) (take_all frame_length s (omega (arith, a.sized)))
 
 -- the fields of an accepted frame are written, and give its bytes
-pub read_written : (s out : List ℕ) (f : Fields) → Bytes s → read_of s ≡ Frame f → frame_length ≤ length out
-    → (write_refusal f (length out) ≡ 0) × (written_of f out ≡ s ++ drop frame_length out)
+pub read_written : (s out : List ℕ) (f : Fields) → Bytes s → read_of s ≡ Ok f → frame_length ≤ length out
+    → (write_refusal f (length out) ≡ granted) × (written_of f out ≡ s ++ drop frame_length out)
 unfolding bytes_of
 read_written s out f b e r =
     let q = reading s f e in
     let a = accepted s q.0 in
-    subst (λ (g : Fields). (write_refusal g (length out) ≡ 0) × (written_of g out ≡ s ++ drop frame_length out)) q.1
+    subst (λ (g : Fields). (write_refusal g (length out) ≡ granted) × (written_of g out ≡ s ++ drop frame_length out)) q.1
     (let g = fields_of (rows_of s) in
-    let z : write_refusal g (length out) ≡ 0 = unrefused g (length out) (rows_written s (length out) b a r) in
-    (z, sym (filled g 0 out (sym z) refl) ∙ rows_joined s (drop frame_length out) b a))
+    let z : write_refusal g (length out) ≡ granted = unrefused g (length out) (rows_written s (length out) b a r) in
+    (z, sym (filled g out (sym z)) ∙ rows_joined s (drop frame_length out) b a))
 
 -- ---- written, then read
 
@@ -76,15 +78,15 @@ values_held : (f : Fields) (n : ℕ) → Typed f → Written f n → Held widths
 values_held f n t w = omega arith
 
 -- the first 64 bytes of what is written are the rows of the fields
-written_first : (f : Fields) (out : List ℕ) → Held widths (values_of f) → write_refusal f (length out) ≡ 0
+written_first : (f : Fields) (out : List ℕ) → Held widths (values_of f) → write_refusal f (length out) ≡ granted
     → take frame_length (written_of f out) ≡ joined widths (values_of f) []
 unfolding bytes_of
 written_first f out h e =
-    ap (take frame_length) (sym (filled f 0 out (sym e) refl) ∙ joined_append widths (values_of f) (drop frame_length out))
+    ap (take frame_length) (sym (filled f out (sym e)) ∙ joined_append widths (values_of f) (drop frame_length out))
     ∙ take_at (joined widths (values_of f) []) (drop frame_length out) frame_length (length_joined widths (values_of f) [] h)
 
 -- fields that are written are what is read of the first 64 bytes
-pub written_read : (f : Fields) (out : List ℕ) → Typed f → write_refusal f (length out) ≡ 0 → read_of (take frame_length (written_of f out)) ≡ Frame f
+pub written_read : (f : Fields) (out : List ℕ) → Typed f → write_refusal f (length out) ≡ granted → read_of (take frame_length (written_of f out)) ≡ Ok f
 written_read f out t e =
     let vs = values_of f in
     let w = in_range f (length out) e in
@@ -92,8 +94,8 @@ written_read f out t e =
     let s = joined widths vs [] in
     let rows : rows_of s ≡ vs = parted_joined widths vs [] [] 0 refl h in
     ap read_of (written_first f out h e)
-    ∙ sym (framed 0 s (past _ 6 w.version refl ∙ by_rows s vs (length_joined widths vs [] h) (sym rows)) refl)
-    ∙ ap (λ (v : List ℕ). Frame (fields_of v)) rows
+    ∙ sym (framed s (require_past _ WrongVersion w.version refl ∙ by_rows s vs (length_joined widths vs [] h) (sym rows)))
+    ∙ ap (λ (v : List ℕ). Ok (fields_of v)) rows
 
 -- ---- precedence
 
@@ -102,7 +104,7 @@ pub precedence_place : (total (take 10 widths) ≡ precedence_start) × (total (
 precedence_place = (refl, refl, refl)
 
 -- the number of 104 bits is the one that the 13 bytes make
-pub precedence_number : (s : List ℕ) (f : Fields) → read_of s ≡ Frame f → precedence_of f.precedence ≡ number_at s precedence_start precedence_bytes
+pub precedence_number : (s : List ℕ) (f : Fields) → read_of s ≡ Ok f → precedence_of f.precedence ≡ number_at s precedence_start precedence_bytes
 unfolding precedence_of parted
 precedence_number s f e =
     let q = reading s f e in
@@ -113,7 +115,7 @@ precedence_number s f e =
 -- ---- hopCount
 
 -- the hop that is read is byte 29
-pub hop_number : (s : List ℕ) (f : Fields) → read_of s ≡ Frame f → f.hop ≡ number_at s 29 1
+pub hop_number : (s : List ℕ) (f : Fields) → read_of s ≡ Ok f → f.hop ≡ number_at s 29 1
 unfolding parted
 hop_number s f e = ap (λ (g : Fields). g.hop) (sym (reading s f e).1)
 

@@ -1,13 +1,12 @@
 -- Better: which of two frames, and which part of it.
-use Rattle.std.specs.Prelude.{ℕ, ◌+◌, cond, List, take, drop, ltb, eqb}
+use Rattle.std.specs.Prelude.{ℕ, ◌+◌, cond, List, take, drop, ltb, eqb, Option, Some, None, Result, Ok, Err}
 use Rattle.std.specs.Borrow.{Bor}
+use Rattle.refusals.specs.declared.Refusal.{Refusal}
 use Rattle.choice.specs.Hop.{last_hop}
 use Rattle.choice.specs.Precedence.{key_of}
 use Rattle.frame.specs.Read.{read_of}
-use Rattle.frame.specs.declared.Reading.{Reading}
-use Rattle.frame.specs.declared.Reading.TheVariants.{Frame, Refused}
+use Rattle.frame.specs.declared.Fields.{Fields}
 use Rattle.frame.specs.declared.Standing.{Standing}
-use Rattle.frame.specs.declared.Standing.TheVariants.{Loses, Stands}
 use Rattle.frame.specs.declared.Winner.{Winner}
 use Rattle.frame.specs.declared.Winner.TheVariants.{Neither, First, Second}
 
@@ -19,19 +18,19 @@ abbrev pub precedence_bytes : ℕ
 precedence_bytes = 13
 
 -- what meets 4, 5, 6 or 7 loses
-abbrev pub standing_by : Reading → Standing
-standing_by (Refused k) = Loses
-standing_by (Frame f) = cond (eqb f.hop last_hop) Loses (Stands f.precedence f.hop)
+abbrev pub standing_by : Result Fields Refusal → Option Standing
+standing_by (Err refusal) = None
+standing_by (Ok f) = cond (eqb f.hop last_hop) None (Some (record { precedence = f.precedence; hop = f.hop }))
 
-unfoldable pub standing_of : List ℕ → Standing
+unfoldable pub standing_of : List ℕ → Option Standing
 standing_of s = standing_by (read_of s)
 
 -- the lesser key, the first on a tie
-unfoldable pub winner_of : Standing → Standing → Winner
-winner_of Loses Loses = Neither
-winner_of Loses (Stands q k) = Second
-winner_of (Stands p h) Loses = First
-winner_of (Stands p h) (Stands q k) = cond (ltb (key_of q k) (key_of p h)) Second First
+unfoldable pub winner_of : Option Standing → Option Standing → Winner
+winner_of None None = Neither
+winner_of None (Some y) = Second
+winner_of (Some x) None = First
+winner_of (Some x) (Some y) = cond (ltb (key_of y.precedence y.hop) (key_of x.precedence x.hop)) Second First
 
 -- where a slice lies, and its bytes
 abbrev pub lies : Bor (List ℕ) → (ℕ × ℕ) × List ℕ

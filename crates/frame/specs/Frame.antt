@@ -7,7 +7,7 @@ use Rattle.frame.specs.declared.Fields.{Fields}
 abbrev pub frame_length : ℕ
 frame_length = 64
 
--- what stands in every frame: da 01-80-C2-00-00-0E, protocol_type, function
+-- what stands in every frame: da 01-80-C2-00-00-0E, protocolType, function
 abbrev pub station_address : ℕ
 station_address = 0x0180C200000E
 
@@ -32,7 +32,7 @@ abbrev pub widths : List ℕ
 widths =
     6  -- 0: da
     ∷ 1 ∷ 1 ∷ 1 ∷ 1 ∷ 1 ∷ 1  -- 1 to 6: sa
-    ∷ 2 ∷ 1 ∷ 1  -- 7 to 9: protocol_type, function, version
+    ∷ 2 ∷ 1 ∷ 1  -- 7 to 9: protocolType, function, version
     ∷ 1 ∷ 1 ∷ 2 ∷ 1 ∷ 8  -- 10 to 14: precedence
     ∷ 1 ∷ 1 ∷ 1  -- 15 to 17: hopCount, frameCount, zero
     ∷ 5 ∷ 5  -- 18, 19: grandTime

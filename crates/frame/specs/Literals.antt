@@ -1,5 +1,6 @@
 -- Document 01's literals of the frame: a frame as it is written, what Read makes of it, and of it with one byte or the length changed.
 use Rattle.std.specs.Prelude.{List, [], ◌∷◌, ◌++◌, ℕ, ◌+◌, ◌*◌, ◌^◌, length, take, set}
+use Rattle.refusals.specs.Answer.{answer_number}
 use Rattle.refusals.specs.Literals.{Literal, literal}
 use Rattle.numbers.specs.Bytes.{number_at}
 use Rattle.frame.specs.Read.{read_refusal}
@@ -28,15 +29,22 @@ frame = bytes_of (fields_of_version 2) []
 abbrev bytes : ℕ → ℕ → ℕ
 bytes a n = number_at frame a n
 
--- what Read refuses the frame with where one of its bytes is another
+-- the number that Read answers, and that of the frame where one of its bytes is another
+abbrev read : List ℕ → ℕ
+read s = answer_number (read_refusal s)
+
 abbrev with : ℕ → ℕ → ℕ
-with a byte = read_refusal (set frame a byte)
+with a byte = read (set frame a byte)
+
+-- the number that Write answers to the fields of a version, into so many bytes
+abbrev write : ℕ → ℕ → ℕ
+write version room = answer_number (write_refusal (fields_of_version version) room)
 
 unfoldable pub frame_literals : List Literal
 frame_literals =
     -- 64 bytes
     literal (length frame) 64
-    -- da 01-80-C2-00-00-0E, protocol_type 88B5, function 1, byte 31 zero; version
+    -- da 01-80-C2-00-00-0E, protocolType 88B5, function 1, byte 31 zero; version
     ∷ literal (bytes 0 6) 0x0180C200000E
     ∷ literal (bytes 12 2) 0x88B5
     ∷ literal (bytes 14 1) 1
@@ -58,10 +66,10 @@ frame_literals =
     ∷ literal (bytes 48 6) 18
     ∷ literal (bytes 54 6) 19
     ∷ literal (bytes 60 4) 20
-    -- Read takes it, and refuses it a byte shorter, a byte longer, and with another da, protocol_type, function, byte 31 or version
-    ∷ literal (read_refusal frame) 0
-    ∷ literal (read_refusal (take 63 frame)) 4
-    ∷ literal (read_refusal (frame ++ (0 ∷ []))) 4
+    -- Read takes it, and refuses it a byte shorter, a byte longer, and with another da, protocolType, function, byte 31 or version
+    ∷ literal (read frame) 0
+    ∷ literal (read (take 63 frame)) 4
+    ∷ literal (read (frame ++ (0 ∷ []))) 4
     ∷ literal (with 0 0) 5
     ∷ literal (with 5 15) 5
     ∷ literal (with 12 0) 5
@@ -77,10 +85,10 @@ frame_literals =
     ∷ literal (with 6 255) 0
     ∷ literal (with 29 255) 0
     -- Write takes version 1 and version 2 and no other; 4 comes before 6
-    ∷ literal (write_refusal (fields_of_version 1) 64) 0
-    ∷ literal (write_refusal (fields_of_version 2) 64) 0
-    ∷ literal (write_refusal (fields_of_version 0) 64) 6
-    ∷ literal (write_refusal (fields_of_version 3) 64) 6
-    ∷ literal (write_refusal (fields_of_version 255) 64) 6
-    ∷ literal (write_refusal (fields_of_version 3) 63) 4
+    ∷ literal (write 1 64) 0
+    ∷ literal (write 2 64) 0
+    ∷ literal (write 0 64) 6
+    ∷ literal (write 3 64) 6
+    ∷ literal (write 255 64) 6
+    ∷ literal (write 3 63) 4
     ∷ []

@@ -8,7 +8,7 @@ use Rattle.frame.specs.declared.Fields.{Fields}
 abbrev pub NoVersion : ℕ → Type 0
 NoVersion version = (version ≢ 1) × (version ≢ 2)
 
--- Read: the length; da, protocol_type, function and byte 31; version
+-- Read: the length; da, protocolType, function and byte 31; version
 abbrev pub read_conditions : List ℕ → List Condition
 read_conditions s =
     given 4 (length s ≢ 64)

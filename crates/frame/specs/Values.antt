@@ -8,7 +8,7 @@ use Rattle.frame.specs.Frame.{frame_length, station_address, local_experimental,
 use Rattle.frame.specs.declared.Mac.{Mac}
 use Rattle.frame.specs.declared.Fields.{Fields}
 
--- 4 for a wrong length; 5 for a wrong da (bytes 0-5), protocol_type (12-13), function (14) or byte 31; 6 for a version (15) that there is not; or 0
+-- 4 for a wrong length; 5 for a wrong da (bytes 0-5), protocolType (12-13), function (14) or byte 31; 6 for a version (15) that there is not; or 0
 abbrev pub bytes_refusal : List ℕ → ℕ
 bytes_refusal s =
     unless (eqb (length s) frame_length) wrong_length

@@ -7,7 +7,7 @@ ghost use Rattle.frame.specs.Frame.{frame_length, widths};
 pub const FRAME_LENGTH: usize = 64;
 
 // How many numbers stand in a frame.
-const ROWS: usize = 24;
+pub const ROWS: usize = 24;
 
 // The rows of the table, each with the place of its number.
 pub const DA: usize = 0;
@@ -49,41 +49,33 @@ pub const RX: usize = 22;
 pub const ERROR: usize = 23;
 
 // The width of each row in bytes.
-const WIDTHS: [usize; 24] = [
+const WIDTHS: [usize; ROWS] = [
     6, 1, 1, 1, 1, 1, 1, 2, 1, 1, 1, 1, 2, 1, 8, 1, 1, 1, 5, 5, 6, 6, 6, 4,
 ];
 
-// The numbers that stand in a frame, row by row from the last.
-pub fn parts(frame: &[u8]) -> [u64; 24]
+// The numbers that stand in a frame, row by row.
+pub fn parts(frame: &[u8]) -> [u64; ROWS]
     requires { length frame.now ≡ frame_length }
     ensures value { result ≡ parted widths 0 frame.now }
     ensures held { Held widths result }
 {
-    let table = WIDTHS;
-    let mut values = [0u64; 24];
-    let mut at: usize = FRAME_LENGTH;
-    let mut k: usize = ROWS;
-    while 0 < k {
-        k -= 1;
-        let n = table[k];
-        at -= n;
-        values[k] = numbers_bytes::number_at(frame, at, n);
+    let mut values = [0; ROWS];
+    let mut at = 0;
+    for (row, width) in WIDTHS.iter().enumerate() {
+        values[row] = numbers_bytes::number_at(frame, at, *width);
+        at += *width;
     }
     values
 }
 
-// Fills the first 64 bytes with the numbers, row by row from the last.
-pub fn fill(values: [u64; 24], out: &mut [u8])
+// Fills the first 64 bytes with the numbers, row by row.
+pub fn fill(values: [u64; ROWS], out: &mut [u8])
     requires { frame_length ≤ length out.old }
     ensures { out.new ≡ joined widths values (drop frame_length out.old) }
 {
-    let table = WIDTHS;
-    let mut at: usize = FRAME_LENGTH;
-    let mut k: usize = ROWS;
-    while 0 < k {
-        k -= 1;
-        let n = table[k];
-        at -= n;
-        numbers_bytes::put_at(out, at, n, values[k]);
+    let mut at = 0;
+    for (value, width) in values.iter().zip(&WIDTHS) {
+        numbers_bytes::put_at(out, at, *width, *value);
+        at += *width;
     }
 }

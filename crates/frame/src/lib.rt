@@ -1,4 +1,4 @@
-// The time_sync frame of 64 bytes: read, written, and the better of two.
+// The timeSync frame of 64 bytes: read, written, and the better of two.
 #![tactic(auto)]
 
 pub mod layout;
@@ -26,18 +26,11 @@ pub struct Fields {
     pub version: u8,
 }
 
-// What reading finds: a frame's fields, or the refusal's number.
+// How a frame that does not lose stands in a comparison.
 #[derive(Clone, Copy)]
-pub enum Reading {
-    Frame(Fields),
-    Refused(u8),
-}
-
-// How a frame stands in a comparison: it loses, or it has a precedence and a hop.
-#[derive(Clone, Copy)]
-pub enum Standing {
-    Loses,
-    Stands(Precedence, u8),
+pub struct Standing {
+    pub precedence: Precedence,
+    pub hop: u8,
 }
 
 // Which of two frames is the better.
