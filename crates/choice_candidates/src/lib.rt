@@ -10,41 +10,32 @@ use choice::Candidate;
 const NONE_SHOWN: u8 = 255;
 
 // The held hop of the chosen clock, the last one where there is none.
-pub fn chosen_hop(choice: Candidate) -> u8
+#[tactic(auto, unfolding(choice::specs::Choose::chosen_hop))]
+pub fn chosen_hop(choice: Option<Candidate>) -> u8
     ensures { result ≡ chosen_hop choice }
 {
-    match choice {
-        Candidate::Nothing => choice_hop::LAST_HOP,
-        Candidate::Clock(_, hop, _) => hop,
-    }
+    choice.map_or(choice_hop::LAST_HOP, |clock| clock.hop)
 }
 
 // The number of the chosen clock, 0 where there is none.
-pub fn number(choice: Candidate) -> u8
+pub fn number(choice: Option<Candidate>) -> u8
     ensures { result ≡ number_of choice }
 {
-    match choice {
-        Candidate::Nothing => 0,
-        Candidate::Clock(_, _, number) => number,
-    }
+    choice.map_or(0, |clock| clock.number)
 }
 
 // The port of a choice, as it is shown.
-pub fn shown_port(choice: Candidate) -> u8
+#[tactic(auto, unfolding(choice::specs::Choose::shown_port))]
+pub fn shown_port(choice: Option<Candidate>) -> u8
     ensures { result ≡ shown_port choice }
 {
-    match choice {
-        Candidate::Nothing => NONE_SHOWN,
-        Candidate::Clock(_, _, port) => port,
-    }
+    choice.map_or(NONE_SHOWN, |clock| clock.number)
 }
 
 // The held hop of a choice, as it is shown.
-pub fn shown_hop(choice: Candidate) -> u8
+#[tactic(auto, unfolding(choice::specs::Choose::shown_hop))]
+pub fn shown_hop(choice: Option<Candidate>) -> u8
     ensures { result ≡ shown_hop choice }
 {
-    match choice {
-        Candidate::Nothing => NONE_SHOWN,
-        Candidate::Clock(_, hop, _) => hop,
-    }
+    choice.map_or(NONE_SHOWN, |clock| clock.hop)
 }
