@@ -1,10 +1,13 @@
 -- Laws of digits: the value in each range of characters, how long a text of n digits is, and one character more for each loop.
-use Rattle.std.proofs.Common.{◌≡◌, ℕ, zero, suc, ◌+◌, ◌-◌, ◌*◌, ◌%◌, ◌^◌, ◌<◌, ◌≤◌, Bool, true, false, cond, eqb, ltb, List, [], ◌∷◌, ◌++◌, length, get_or, take, drop, set, sym, refl, ap, ◌∙◌, true≢false, append-nil, lt_of_lt_of_le, pow-suc, lt_of_not-le, add-one, arith, lit<, length-take-le, drop-cons, take-suc, le-ltb, lt-ltb, ne_eqb, eqb-true, le-leb}
+use Rattle.std.proofs.Common.{◌≡◌, ℕ, suc, ◌+◌, ◌-◌, ◌*◌, ◌%◌, ◌^◌, ◌<◌, ◌≤◌, Bool, true, false, cond, eqb, ltb, List, [], ◌∷◌, ◌++◌, length, get_or, take, drop, set, sym, refl, ap, ◌∙◌, true≢false, inl, inr, ◌⊎◌, append-nil, lt_of_lt_of_le, pow-suc, lt_of_not-le, add-one, arith, lit<, drop-cons, le-ltb, lt-ltb, ne_eqb, eqb-true, le-leb}
 use native.Mathlib.Nat.{pow-le-pow_right}
 use native.Mathlib.Decide.{dec_le}
 use lib.Arith.{digits_lt}
-use lib.Seq.{set_at, append_snoc, take-length, drop-length}
+use lib.Seq.{append_snoc, take-suc-set, take-length, drop-length}
 use borrow.Author.Tests.{lt-leb}
+use Rattle.std.specs.Ordering.{ord_max, nat_cmp}
+use Rattle.std.specs.Cmp.{nat_cmp_is}
+use Rattle.std.specs.declared.cmp.Ordering.TheVariants.{Less, Equal, Greater}
 use Rattle.numbers.proofs.Branches.{if_false}
 use Rattle.hexadecimal.specs.Digit.{no_digit, within, value_of, is_digit, all_digits, exactly, worth, byte_of, pairs}
 
@@ -60,15 +63,29 @@ pub all_next : (s : List ℕ) (i : ℕ) {b : Bool} → i < length s → is_digit
 unfolding all_digits
 all_next s i h e = ap all_digits (drop-cons s i 0 h) ∙ rw add-one (ap (λ (t : Bool). cond t (all_digits (drop (suc i) s)) false) e)
 
--- the greater of two values is a digit's where both are
-greater_digit : (a b : ℕ) → ltb (cond (ltb a b) b a) no_digit ≡ cond (ltb a no_digit) (ltb b no_digit) false
-greater_digit a b = go (dec_le b a) (dec_le no_digit a)
+cond_false : (p : Bool) → cond p false false ≡ false
+cond_false true = refl
+cond_false false = refl
+
+-- the greater of two values
+greatest_of : (a b : ℕ) → (b < a × ord_max nat_cmp a b ≡ a) ⊎ (a ≤ b × ord_max nat_cmp a b ≡ b)
+greatest_of a b = go (dec_le a b) (dec_le b a)
   where
-    go : Dec (b ≤ a) → Dec (no_digit ≤ a) → ltb (cond (ltb a b) b a) no_digit ≡ cond (ltb a no_digit) (ltb b no_digit) false
-    go (yes h) (yes k) = rw (le-ltb a b h, le-ltb a no_digit k)
-    go (yes h) (no k) = rw (le-ltb a b h, lt-ltb a no_digit (lt_of_not-le k), lt-ltb b no_digit (omega (arith, lt_of_not-le k)))
-    go (no h) (yes k) = rw (lt-ltb a b (lt_of_not-le h), le-ltb a no_digit k, le-ltb b no_digit (omega (arith, lt_of_not-le h)))
-    go (no h) (no k) = rw (lt-ltb a b (lt_of_not-le h), lt-ltb a no_digit (lt_of_not-le k))
+    go : Dec (a ≤ b) → Dec (b ≤ a) → (b < a × ord_max nat_cmp a b ≡ a) ⊎ (a ≤ b × ord_max nat_cmp a b ≡ b)
+    go (no h) k = inl (lt_of_not-le h, rw (← nat_cmp_is b a Less (lt_of_not-le h)) refl)
+    go (yes h) (no k) = inr (h, rw (← nat_cmp_is b a Greater (lt_of_not-le k)) refl)
+    go (yes h) (yes k) = inr (h, rw (← nat_cmp_is b a Equal (omega arith)) refl)
+
+-- is a digit's where both are
+greater_digit : (a b : ℕ) → ltb (ord_max nat_cmp a b) no_digit ≡ cond (ltb a no_digit) (ltb b no_digit) false
+greater_digit a b = go (greatest_of a b) (dec_le no_digit a) (dec_le no_digit b)
+  where
+    go : (b < a × ord_max nat_cmp a b ≡ a) ⊎ (a ≤ b × ord_max nat_cmp a b ≡ b) → Dec (no_digit ≤ a) → Dec (no_digit ≤ b)
+        → ltb (ord_max nat_cmp a b) no_digit ≡ cond (ltb a no_digit) (ltb b no_digit) false
+    go (inl (h, e)) (yes k) l = rw (e, le-ltb a no_digit k)
+    go (inl (h, e)) (no k) l = rw (e, lt-ltb a no_digit (lt_of_not-le k), lt-ltb b no_digit (omega (arith, lt_of_not-le k)))
+    go (inr (h, e)) k (yes l) = rw (e, le-ltb b no_digit l) (sym (cond_false (ltb a no_digit)))
+    go (inr (h, e)) k (no l) = rw (e, lt-ltb b no_digit (lt_of_not-le l), lt-ltb a no_digit (omega (arith, lt_of_not-le l)))
 
 cond_nested : (p q r : Bool) → cond (cond p q false) r false ≡ cond p (cond q r false) false
 cond_nested true q r = refl
@@ -79,7 +96,7 @@ cond_itself true = refl
 cond_itself false = refl
 
 -- one character more, the greatest value so far being g
-pub all_more : (s : List ℕ) (i g v r : ℕ) → i < length s → v ≡ value_of (get_or s i 0) → r ≡ cond (ltb g v) v g
+pub all_more : (s : List ℕ) (i g v r : ℕ) → i < length s → v ≡ value_of (get_or s i 0) → r ≡ ord_max nat_cmp g v
     → cond (ltb r no_digit) (all_digits (drop (i + 1) s)) false ≡ cond (ltb g no_digit) (all_digits (drop i s)) false
 all_more s i g v r h e f =
     let rest = all_digits (drop (i + 1) s) in
@@ -115,27 +132,14 @@ pairs_next s j h =
     let m : suc (j * 2) < length s = omega arith in
     ap pairs (drop-cons s (j * 2) 0 l ∙ ap (λ (t : List ℕ). get_or s (j * 2) 0 ∷ t) (drop-cons s (suc (j * 2)) 0 m)) ∙ rw (add-one, e) refl
 
-stored : (out t : List ℕ) (j b : ℕ) → j < length out → set (take (suc j) out ++ t) j b ≡ take j out ++ (b ∷ t)
-stored out t j b h =
-    rw (take-suc out j 0, append_snoc (take j out) (get_or out j 0) t)
-    (set_at (take j out) (get_or out j 0) t b j (length-take-le j out (omega arith)))
+-- one byte more
+pub pairs_step : (s out : List ℕ) (i b : ℕ) → i < length out → length s ≡ length out * 2 → b ≡ byte_of (get_or s (i * 2) 0) (get_or s (i * 2 + 1) 0)
+    → take (i + 1) (set out i b) ++ pairs (drop ((i + 1) * 2) s) ≡ take i out ++ pairs (drop (i * 2) s)
+pairs_step s out i b h l e =
+    let m : i * 2 + 1 < length s = omega arith in
+    rw (add-one, take-suc-set, pairs_next s i m, e) (append_snoc (take i out) (byte_of (get_or s (i * 2) 0) (get_or s (i * 2 + 1) 0)) (pairs (drop (suc i * 2) s)))
 
-pub pairs_step : (s out t : List ℕ) (i b : ℕ) → 0 < i → i ≤ length out → length s ≡ length out * 2
-    → b ≡ byte_of (get_or s ((i - 1) * 2) 0) (get_or s ((i - 1) * 2 + 1) 0) → t ≡ take i out ++ pairs (drop (i * 2) s)
-    → set t (i - 1) b ≡ take (i - 1) out ++ pairs (drop ((i - 1) * 2) s)
-pairs_step s out t zero b p h l eb et = absurd (omega arith)
-pairs_step s out t (suc j) b p h l eb et =
-    let g : j < length out = omega arith in
-    let m : j * 2 + 1 < length s = omega arith in
-    let z : suc j - 1 ≡ j = omega arith in
-    rw (z, pairs_next s j m, et)
-    (stored out (pairs (drop (suc j * 2) s)) j b g ∙ ap (λ (x : ℕ). take j out ++ (x ∷ pairs (drop (suc j * 2) s))) (rw z at eb))
-
-pub pairs_start : (s out : List ℕ) → length s ≡ length out * 2 → out ≡ take (length out) out ++ pairs (drop (length out * 2) s)
+-- and the last
+pub pairs_end : (s out : List ℕ) (i : ℕ) → i ≡ length out → length s ≡ length out * 2 → out ≡ take i out ++ pairs (drop (i * 2) s)
 unfolding pairs
-pairs_start s out h =
-    sym
-    (ap (λ (l : List ℕ). l ++ pairs (drop (length out * 2) s)) (take-length out)
-    ∙ ap (λ (n : ℕ). out ++ pairs (drop n s)) (sym h)
-    ∙ ap (λ (l : List ℕ). out ++ pairs l) (drop-length s)
-    ∙ append-nil out)
+pairs_end s out i e l = rw (e, ← l, drop-length, take-length) (sym (append-nil out))

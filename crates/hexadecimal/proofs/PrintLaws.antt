@@ -1,6 +1,6 @@
 -- Laws of printed bytes.
-use Rattle.std.proofs.Common.{◌≡◌, ℕ, zero, suc, ◌+◌, ◌-◌, ◌*◌, ◌/◌, ◌%◌, ◌<◌, ◌≤◌, List, [], ◌∷◌, ◌++◌, length, get_or, take, drop, sym, refl, ap, ◌∙◌, append_assoc, append-nil, add-one, arith, length-append, length-take-le, drop-cons, take-take, drop_at}
-use lib.Seq.{take-length, drop-length, sets-eq, take-append-le}
+use Rattle.std.proofs.Common.{◌≡◌, ℕ, suc, ◌+◌, ◌*◌, ◌/◌, ◌%◌, ◌<◌, List, [], ◌∷◌, ◌++◌, length, get_or, take, drop, sym, refl, ap, ◌∙◌, append_assoc, append-nil, add-one, arith, length-append, length-take-le, drop-cons, take_at}
+use lib.Seq.{take-length, drop-length, sets-eq}
 use Rattle.hexadecimal.specs.Print.{capital_of, text_of, with_byte_of}
 
 -- a byte's digits are a run of two stores
@@ -25,22 +25,23 @@ text_next : (s : List ℕ) (i : ℕ) → i < length s → text_of (drop i s) ≡
 unfolding text_of
 text_next s i h = rw (drop-cons s i 0)
 
-pub text_step : (s out t : List ℕ) (i : ℕ) → 0 < i → i ≤ length s → length out ≡ length s * 2 → t ≡ take (i * 2) out ++ text_of (drop i s)
-    → with_byte_of t ((i - 1) * 2) (get_or s (i - 1) 0) ≡ take ((i - 1) * 2) out ++ text_of (drop (i - 1) s)
-text_step s out t zero p h l e = absurd (omega arith)
-text_step s out t (suc j) p h l e =
-    let z : suc j - 1 ≡ j = omega arith in
-    let m : suc j * 2 ≤ length out = omega arith in
-    let n : length (take (suc j * 2) out) ≡ j * 2 + 2 = length-take-le (suc j * 2) out m ∙ omega arith in
-    let q : length (take (suc j * 2) out) ≡ suc j * 2 = length-take-le (suc j * 2) out m in
-    let w : j * 2 + 1 < length (take (suc j * 2) out ++ text_of (drop (suc j) s)) = rw (length-append) (omega arith) in
-    let x : take (j * 2) (take (suc j * 2) out ++ text_of (drop (suc j) s)) ≡ take (j * 2) out =
-    take-append-le (j * 2) (take (suc j * 2) out) (text_of (drop (suc j) s)) (omega arith) ∙ take-take (j * 2) (suc j * 2) out (omega arith) in
-    let y : drop (j * 2 + 2) (take (suc j * 2) out ++ text_of (drop (suc j) s)) ≡ text_of (drop (suc j) s) =
-    drop_at (take (suc j * 2) out) (text_of (drop (suc j) s)) (j * 2 + 2) n in
-    rw (z, e, with_byte (take (suc j * 2) out ++ text_of (drop (suc j) s)) (j * 2) (get_or s j 0) w, x, y)
-    (rw (text_next s j (omega arith)) refl)
+-- one byte more
+pub text_step : (s out : List ℕ) (i : ℕ) → i < length s → length out ≡ length s * 2
+    → take ((i + 1) * 2) (with_byte_of out (i * 2) (get_or s i 0)) ++ text_of (drop (i + 1) s) ≡ take (i * 2) out ++ text_of (drop i s)
+text_step s out i h l =
+    let b = get_or s i 0 in
+    let two = capital_of (b / 16) ∷ capital_of (b % 16) ∷ [] in
+    let z : (i + 1) * 2 ≡ i * 2 + 2 = omega arith in
+    let m : i * 2 + 1 < length out = omega arith in
+    let n : length (take (i * 2) out) ≡ i * 2 = length-take-le (i * 2) out (omega arith) in
+    let k : length (take (i * 2) out ++ two) ≡ i * 2 + 2 = rw (length-append, n) refl in
+    let t = text_of (drop (suc i) s) in
+    rw (z, with_byte out (i * 2) b m, text_next s i h, add-one)
+    (ap (λ (l : List ℕ). take (i * 2 + 2) l ++ t) (sym (append_assoc (take (i * 2) out) two (drop (i * 2 + 2) out)))
+    ∙ ap (λ (l : List ℕ). l ++ t) (take_at (take (i * 2) out ++ two) (drop (i * 2 + 2) out) (i * 2 + 2) k)
+    ∙ append_assoc (take (i * 2) out) two t)
 
-pub text_start : (s out : List ℕ) → length out ≡ length s * 2 → out ≡ take (length s * 2) out ++ text_of (drop (length s) s)
+-- and the last
+pub text_end : (s out : List ℕ) (i : ℕ) → i ≡ length s → length out ≡ length s * 2 → out ≡ take (i * 2) out ++ text_of (drop i s)
 unfolding text_of
-text_start s out h = rw (drop-length s, ← h, take-length out) (sym (append-nil out))
+text_end s out i e l = rw (e, ← l, drop-length, take-length) (sym (append-nil out))

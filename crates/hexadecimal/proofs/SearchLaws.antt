@@ -1,5 +1,5 @@
 -- Laws of the search for a mark: one byte more, a block more, and where it ends.
-use Rattle.std.proofs.Common.{◌≡◌, ℕ, zero, suc, ◌+◌, ◌<◌, ◌≤◌, Bool, true, false, cond, eqb, List, [], ◌∷◌, length, get_or, take, drop, refl, ap, ◌∙◌, true≢false, add-one, arith, length-drop, drop_of_length-le, drop-cons, drop-drop, eq-eqb, ne_eqb}
+use Rattle.std.proofs.Common.{◌≡◌, ℕ, zero, suc, ◌+◌, ◌<◌, ◌≤◌, Bool, true, false, cond, eqb, List, [], ◌∷◌, length, get_or, take, drop, refl, ap, ◌∙◌, true≢false, add-one, arith, length-drop, drop_of_length-le, drop-cons, drop-drop, eq-eqb, ne_eqb, ◌++◌, sym, length-append, take_at, drop_at}
 use Rattle.hexadecimal.specs.Search.{contains, up_to, found_at}
 
 -- ---- whether there is one
@@ -78,6 +78,19 @@ pub found_past : (mark n : ℕ) (s : List ℕ) (i : ℕ) → i + n ≤ length s 
 found_past mark n s i h e =
     let k = up_past mark n (drop i s) (rw (length-drop i s) (omega arith)) e in
     omega (arith, ap (λ (x : List ℕ). length (up_to mark x)) (drop-drop n i s), k)
+
+block_within : (s : List ℕ) (i n : ℕ) → 0 < n → n ≤ length (drop i s) → i + n ≤ length s
+block_within s i n p h = omega (arith, length-drop i s)
+
+-- past a block without the mark: what is left, and where the first mark stands
+pub block_past : (mark n : ℕ) (s : List ℕ) (i : ℕ) (block rest : List ℕ) → drop i s ≡ block ++ rest → length block ≡ n → 0 < n → contains mark block ≡ false
+    → (rest ≡ drop (i + n) s) × (found_at mark s (i + n) ≡ found_at mark s i)
+block_past mark n s i block rest e l p k =
+    let m : length (drop i s) ≡ n + length rest = rw (e, length-append, l) refl in
+    let h : i + n ≤ length s = block_within s i n p (omega arith) in (
+      sym (drop_at block rest n l) ∙ ap (drop n) (sym e) ∙ drop-drop n i s,
+      found_past mark n s i h (rw (e, take_at block rest n l) k),
+    )
 
 pub found_within : (mark : ℕ) (s : List ℕ) (from : ℕ) → from ≤ length s → found_at mark s from ≤ length s
 found_within mark s from h = omega (arith, up_short mark (drop from s), length-drop from s)

@@ -5,22 +5,13 @@ ghost use Rattle.hexadecimal.specs.Search.{contains, found_at};
 // How many bytes are searched at once.
 const BLOCK: usize = 32;
 
-// Whether either holds; without a branch, so that many bytes are tested at once.
-fn either(a: bool, b: bool) -> bool
-    ensures { result ≡ (if a then true else b) }
-{
-    if a { true } else { b }
-}
-
-// Whether the mark is among the bytes.
+// Whether the mark is among the bytes; every byte is looked at, without a branch, so that many are tested at once.
 fn has(bytes: &[u8], mark: u8) -> bool
     ensures { result ≡ contains mark bytes.now }
 {
     let mut met = false;
-    let mut i = 0;
-    while i < bytes.len() {
-        met = either(met, bytes[i] == mark);
-        i += 1;
+    for b in bytes {
+        met |= *b == mark;
     }
     met
 }
@@ -30,12 +21,12 @@ fn past_blocks(bytes: &[u8], from: usize, mark: u8) -> usize
     ensures { found_at mark bytes.now result ≡ found_at mark bytes.now from }
 {
     let mut i = from;
-    while i < bytes.len() && BLOCK <= bytes.len() - i {
-        let next = i + BLOCK;
-        if has(&bytes[i..next], mark) {
+    let rest = bytes.get(from..).unwrap_or(&[]);
+    for block in rest.chunks_exact(BLOCK) {
+        if has(block, mark) {
             return i;
         }
-        i = next;
+        i += BLOCK;
     }
     i
 }
@@ -44,12 +35,14 @@ fn past_blocks(bytes: &[u8], from: usize, mark: u8) -> usize
 pub fn found(bytes: &[u8], from: usize, mark: u8) -> usize
     ensures { result ≡ found_at mark bytes.now from }
 {
-    let mut i = past_blocks(bytes, from, mark);
-    while i < bytes.len() {
-        if bytes[i] == mark {
-            return i;
-        }
-        i += 1;
+    let start = past_blocks(bytes, from, mark);
+    if bytes.len() <= start {
+        return start;
     }
-    i
+    for (k, b) in bytes[start..].iter().enumerate() {
+        if *b == mark {
+            return start + k;
+        }
+    }
+    bytes.len()
 }

@@ -18,10 +18,8 @@ pub fn put(bytes: &[u8], out: &mut [u8])
     requires { length out.old ≡ length bytes.now * 2 }
     ensures { out.new ≡ text_of bytes.now }
 {
-    let mut i = bytes.len();
-    while 0 < i {
-        i -= 1;
-        put_byte(out, i * digits::DIGITS, bytes[i]);
+    for (i, b) in bytes.iter().enumerate() {
+        put_byte(out, i * digits::DIGITS, *b);
     }
 }
 

@@ -2,7 +2,7 @@
 use Rattle.std.proofs.Common.{arith}
 use Rattle.hexadecimal.proofs.DigitLaws.{value_decimal, value_capital, value_small, value_none}
 use Rattle.hexadecimal.proofs.digits.value.Goals as goal
-use Rattle.hexadecimal.proofs.digits.value.Goals.{After-wrapping_sub_u8-upper, Start}
+use Rattle.hexadecimal.proofs.digits.value.Goals.{Start}
 
 pub returns-then-decimal-lt-TEN : goal.returns-then-decimal-lt-TEN
 returns-then-decimal-lt-TEN c = omega (arith, value_decimal c.args.c (omega arith) (omega arith))
