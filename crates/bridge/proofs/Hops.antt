@@ -44,7 +44,7 @@ use Rattle.bridge.proofs.Records.{eight_records}
 use Rattle.bridge.proofs.Heard.{took, taken_stored, heard_run}
 use Rattle.bridge.proofs.Keeps.{setup_lawful, run_lawful}
 use Rattle.bridge.proofs.Sent.{wrote, wrote_hop, sent_frame_read}
-use Rattle.bridge.proofs.Least.{chosen_announced}
+use Rattle.bridge.proofs.Least.{announcing, chosen_announced}
 
 -- ---- a frame that is taken
 
@@ -130,12 +130,11 @@ passed_on s cs port t out full l e = go (chosen_of b) refl (omega arith)
         let at = chosen_announced b q n in
         let announced = at.1 in
         let above = ⊎_elim
-        (λ silent. let clash : ◌≡◌ {A = ℕ} 0 1 = cc in absurd (omega arith))
+        (λ silent. cc)
         (λ above. above)
         (run_announces s cs i below) in
-        let both : Some (record { precedence = c.precedence; hop = c.hop; heard_at = at.0 }) ≡ Some (record { precedence = above.fields.precedence; hop = above.held; heard_at = above.heard_at })
-        = sym announced ∙ above.announced in
-        let same : ◌≡◌ {A = Announcement} (record { precedence = c.precedence; hop = c.hop; heard_at = at.0 }) (record { precedence = above.fields.precedence; hop = above.held; heard_at = above.heard_at }) = cc in
+        let both : Some (announcing c at.0) ≡ Some (record { precedence = above.fields.precedence; hop = above.held; heard_at = above.heard_at }) = sym announced ∙ above.announced in
+        let same : announcing c at.0 ≡ record { precedence = above.fields.precedence; hop = above.held; heard_at = above.heard_at } = cc in
         let clock : c.precedence ≡ above.fields.precedence = ap (λ (x : Announcement). x.precedence) same in
         let held : c.hop ≡ above.held = ap (λ (x : Announcement). x.hop) same in
         let sent : hop_at (send_bytes b port t out) ≡ c.hop = wrote_hop (wrote b port t out e) full q (omega (arith, held, above.within)) in

@@ -116,18 +116,22 @@ none_chosen b f = f (chosen_of b) (chosen_member b)
 
 -- ---- the announcement behind it
 
+-- a clock as a port announces it that heard it at this time
+abbrev pub announcing : Candidate → LocalTime → Announcement
+announcing c when = record { precedence = c.precedence; hop = c.hop; heard_at = when }
+
 -- this clock is announced at index i
 abbrev AnnouncedAt : List Port → ℕ → Candidate → Type 0
-AnnouncedAt ports i c = (when : LocalTime) × ((port_at ports i).announcement ≡ Some (record { precedence = c.precedence; hop = c.hop; heard_at = when }))
+AnnouncedAt ports i c = (when : LocalTime) × ((port_at ports i).announcement ≡ Some (announcing c when))
 
 -- a port's candidate is its announcement, under its number
 candidate_announced : (k : ℕ) (x : Option Announcement) {c : Candidate} → Some c ≡ candidate_of k x
-    → (c.number ≡ k) × ((when : LocalTime) × (x ≡ Some (record { precedence = c.precedence; hop = c.hop; heard_at = when })))
+    → (c.number ≡ k) × ((when : LocalTime) × (x ≡ Some (announcing c when)))
 unfolding candidate_of
 candidate_announced k None e = cc
 candidate_announced k (Some a) {c} e =
     let same : c ≡ record { precedence = a.precedence; hop = a.hop; number = k } = cc in
-    (ap (λ (d : Candidate). d.number) same, (a.heard_at, λ i. Some (record { precedence = (sym same i).precedence; hop = (sym same i).hop; heard_at = a.heard_at })))
+    (ap (λ (d : Candidate). d.number) same, (a.heard_at, λ i. Some (announcing (sym same i) a.heard_at)))
 
 -- a clock among the candidates of the ports is announced at the port of its number
 announced_at : (k : ℕ) (ports : List Port) {c : Candidate} → Memᴰ (Some c) (candidates_from k ports) → (i : ℕ) × (c.number ≡ k + i) × AnnouncedAt ports i c

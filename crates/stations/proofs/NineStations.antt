@@ -5,6 +5,9 @@ use Prim.Native.Nat.{ℕ, suc, ◌<◌}
 use native.Mathlib.Omega.{arith}
 use lib.Dec.{lit<}
 use lib.ListN.{take}
+use Rattle.std.specs.Prelude.{Result, ⊤}
+use Rattle.refusals.specs.Answer.{granted}
+use Rattle.refusals.specs.declared.Refusal.{Refusal}
 use Rattle.numbers.specs.Bytes.{Bytes}
 use Rattle.numbers.specs.Table.{parted, joined}
 use Rattle.times.specs.Times.{since_of, moment_of, error_time_of}
@@ -58,7 +61,7 @@ station_full hop = full_stays (plain_setup 2 default_timeout 0) (calls hop) refl
 
 -- what a station that heard the clock at one hop makes of the frame at another: what Receive answers; and, once it has aged its records, which port's clock is chosen, what a send at port 2 answers, and its frame
 abbrev Outcome : Type 0
-Outcome = ℕ × ℕ × ℕ × List ℕ
+Outcome = Result ⊤ Refusal × ℕ × Result ⊤ Refusal × List ℕ
 
 abbrev outcome : ℕ → ℕ → Outcome
 outcome before hop =
@@ -68,7 +71,7 @@ outcome before hop =
 
 -- it takes the frame, and sends it on at that hop
 abbrev Passed : ℕ → ℕ → ℕ → Type 0
-Passed before hop to = outcome before hop ≡ (0, 1, 0, passing to)
+Passed before hop to = outcome before hop ≡ (granted, 1, granted, passing to)
 
 -- BY COMPUTATION: nine stations that heard the clock at hop 0, so that their chosen hop is 1, and ten that heard it at hop 254
 pub passed : (Passed 0 2 128 × Passed 0 128 191 × Passed 0 191 223 × Passed 0 223 239 × Passed 0 239 247 × Passed 0 247 251 × Passed 0 251 253 × Passed 0 253 254 × Passed 0 254 255)

@@ -8,14 +8,16 @@ use native.Mathlib.Omega.{arith}
 use borrow.Author.Tests.{lt-ltb, le-ltb, ltb-true, ltb-false}
 use lib.Dec.{ltb}
 use lib.ListN.{length}
+use Rattle.std.proofs.Common.{Option, Some, None}
+use Rattle.refusals.specs.Answer.{answer_number}
 use Rattle.refusals.specs.Literals.{tested}
+use Rattle.times.specs.declared.LocalTime.{LocalTime}
 use Rattle.choice.specs.Hop.{last_hop, hop_of}
 use Rattle.choice.specs.Passes.{passes_of}
 use Rattle.choice.specs.Choose.{chosen_hop, number_of}
 use Rattle.choice.specs.declared.Precedence.{Precedence}
 use Rattle.choice.specs.declared.Announcement.{Announcement}
-use Rattle.choice.specs.declared.Announcement.TheVariants.{Silent, Announced}
-use Rattle.choice.specs.declared.Candidate.TheVariants.{Clock}
+use Rattle.choice.specs.declared.Candidate.{Candidate}
 use Rattle.port.specs.declared.Port.{Port}
 use Rattle.bridge.specs.Table.{port_at}
 use Rattle.bridge.specs.State.{Lawful, FullBridge}
@@ -30,7 +32,7 @@ use Rattle.port.proofs.PortLaws.{aged_is, received_announces, read_in_range}
 use Rattle.bridge.proofs.Records.{run_alike, after_alike}
 use Rattle.bridge.proofs.Keeps.{receive_lawful, run_lawful}
 use Rattle.bridge.proofs.Heard.{took, taken_announced, heard_along}
-use Rattle.bridge.proofs.Least.{chosen_announced}
+use Rattle.bridge.proofs.Least.{announcing, chosen_announced}
 use Rattle.bridge.proofs.Sent.{sent_frame_read}
 use Rattle.stations.specs.Stations.{Takes, after_it, later, SendsOn, Row, last, next, ChosenBelow, jump_at, jumps_in, most_stations, hops_left}
 
@@ -45,15 +47,18 @@ module _ {frame : List ℕ} (s : Takes frame) where
   taken_below : hop_at frame < last_hop
   taken_below =
       let t = took s.station s.port frame s.arrival s.accepted in
-      omega (arith, (received_announces _ _ t.fields _ _ t.done).1, (read_in_range frame t.fields s.bytes t.read).typed.hop, hop_number frame t.fields t.read)
+      omega (arith, (received_announces _ _ t.fields _ _ (ap answer_number t.done)).1, (read_in_range frame t.fields s.bytes t.read).typed.hop, hop_number frame t.fields t.read)
 
-  -- what the port announces of it
-  announced : (p : Precedence) × ((port_at (after_it s).ports (s.port - 1)).announcement ≡ Announced p (hop_of (hop_at frame) (hop_before s)) (record { 0 = s.arrival }))
+  -- what the port announces of it, for a clock of this precedence
+  abbrev held : Precedence → Announcement
+  held precedence = record { precedence = precedence; hop = hop_of (hop_at frame) (hop_before s); heard_at = record { 0 = s.arrival } }
+
+  announced : (p : Precedence) × ((port_at (after_it s).ports (s.port - 1)).announcement ≡ Some (held p))
   announced =
       let t = took s.station s.port frame s.arrival s.accepted in (
         t.fields.precedence,
         taken_announced s.station s.port frame s.arrival s.lawful s.accepted
-            ∙ ap (λ (h : ℕ). Announced t.fields.precedence (hop_of h (hop_before s)) (record { 0 = s.arrival })) (hop_number frame t.fields t.read),
+            ∙ ap (λ (h : ℕ). Some (record { precedence = t.fields.precedence; hop = hop_of h (hop_before s); heard_at = record { 0 = s.arrival } })) (hop_number frame t.fields t.read),
       )
 
   -- the port is one of the station's
@@ -74,29 +79,35 @@ module _ {frame : List ℕ} (s : Takes frame) where
   -- and as long as the port takes no other frame, it announces this one or nothing
   still_announced : (calls : List Call) → taken (s.port - 1) (after_it s) calls ≡ []
       → let announcement = (port_at (later s calls).ports (s.port - 1)).announcement in
-      (announcement ≡ Silent) ⊎ (announcement ≡ Announced announced.0 (hop_of (hop_at frame) (hop_before s)) (record { 0 = s.arrival }))
+      (announcement ≡ None) ⊎ (announcement ≡ Some (held announced.0))
   still_announced calls =
-      let A : Announcement = Announced announced.0 (hop_of (hop_at frame) (hop_before s)) (record { 0 = s.arrival }) in
-      let P : List (List ℕ) → Port → Type 0 = λ (frames : List (List ℕ)) (p : Port). frames ≡ [] → (p.announcement ≡ Silent) ⊎ (p.announcement ≡ A) in
+      let A : Option Announcement = Some (held announced.0) in
+      let P : List (List ℕ) → Port → Type 0 = λ (frames : List (List ℕ)) (p : Port). frames ≡ [] → (p.announcement ≡ None) ⊎ (p.announcement ≡ A) in
       heard_along (s.port - 1) P
-      (λ frames p q e _ u none. subst (λ (x : Announcement). (x ≡ Silent) ⊎ (x ≡ A)) (sym e) (u none))
+      (λ frames p q e _ u none. subst (λ (x : Option Announcement). (x ≡ None) ⊎ (x ≡ A)) (sym e) (u none))
       (λ _. inl refl)
       (λ frames at timeout p u. aged_is at timeout p (P frames) u (λ _. inl refl))
       (λ frames frame f setting chosen at p _ _ _ _ none. absurd (omega (arith, ap (λ (l : List (List ℕ)). length l) none)))
       (after_it s) calls [] port_within.1 (λ _. inr announced.1)
+
+  -- a clock that is announced as the frame's is held at its hop
+  same_hop : (c : Candidate) (when : LocalTime) (p : Precedence) → Some (announcing c when) ≡ Some (held p) → c.hop ≡ hop_of (hop_at frame) (hop_before s)
+  same_hop c when p both =
+      let same : announcing c when ≡ held p = cc in
+      ap (λ (x : Announcement). x.hop) same
 
   -- WHAT IT SENDS ON has the held hop of the frame that it took
   pub sent_on_hop : {sent : List ℕ} → SendsOn s sent → hop_at sent ≡ hop_of (hop_at frame) (hop_before s)
   sent_on_hop {sent} o =
       let b = later s o.calls in
       let r = sent_frame_read b o.port o.departure o.output (later_lawful o.calls) o.done (later_full o.calls) in
-      let number : r.number ≡ suc (s.port - 1) = omega (arith, ap number_of r.chosen, o.that_clock, port_within.0) in
-      let heard = (chosen_announced b (r.chosen ∙ ap (Clock r.precedence r.hop) number)).1 in
-      let held : r.hop ≡ hop_of (hop_at frame) (hop_before s) = ⊎_elim
-      (λ silent. let clash : ◌≡◌ {A = ℕ} 0 1 = cc in absurd (omega arith))
-      (λ same. let both = sym heard ∙ same in cc)
+      let number : r.clock.number ≡ suc (s.port - 1) = omega (arith, ap number_of r.chosen, o.that_clock, port_within.0) in
+      let heard = chosen_announced b r.chosen number in
+      let same : r.clock.hop ≡ hop_of (hop_at frame) (hop_before s) = ⊎_elim
+      (λ silent. let none = heard.1 in cc)
+      (λ same. same_hop r.clock heard.0 announced.0 (sym heard.1 ∙ same))
       (still_announced o.calls o.no_other) in
-      ap hop_at o.written ∙ sym (hop_number _ _ r.read) ∙ held
+      ap hop_at o.written ∙ sym (hop_number _ _ r.read) ∙ same
 
 -- the hop jumps where the chosen hop is below the frame's, and nowhere else
 jump_counted : {frame : List ℕ} (s : Takes frame) → ChosenBelow s.station frame → jump_at s ≡ 1

@@ -1,6 +1,7 @@
 -- Stations one after another: each takes a frame by Receive, and what it then writes by Send for that clock is the frame that the next one takes.
 use Rattle.std.specs.Prelude.{◌≡◌, List, [], ℕ, suc, ◌+◌, ◌-◌, ◌<◌, ltb, length, take}
 use Rattle.numbers.specs.Bytes.{Bytes}
+use Rattle.refusals.specs.Answer.{granted}
 use Rattle.refusals.specs.Literals.{tested}
 use Rattle.choice.specs.Hop.{last_hop}
 use Rattle.choice.specs.Choose.{chosen_hop, number_of}
@@ -22,7 +23,7 @@ pub record Takes (frame : List ℕ) : Type 0 where
   pub port : ℕ
   pub arrival : ℕ
   pub bytes : Bytes frame
-  pub accepted : (receive_of station port frame arrival).answer ≡ 0
+  pub accepted : (receive_of station port frame arrival).answer ≡ granted
 
 -- its state after that call, and later, after others
 abbrev pub after_it : {frame : List ℕ} → Takes frame → Bridge
@@ -39,7 +40,7 @@ pub record SendsOn {frame : List ℕ} (s : Takes frame) (sent : List ℕ) : Type
   pub port : ℕ
   pub departure : ℕ
   pub output : List ℕ
-  pub done : (send_of (later s calls) port departure (length output)).answer ≡ 0
+  pub done : (send_of (later s calls) port departure (length output)).answer ≡ granted
   pub written : sent ≡ take frame_length (send_bytes (later s calls) port departure output)
 
 -- ---- stations in a row
