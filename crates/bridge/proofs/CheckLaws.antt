@@ -11,7 +11,7 @@ use lib.Pow.{pow_mono}
 use Rattle.std.specs.Prelude.{⊤}
 use Rattle.std.proofs.Common.{Result, Ok, Err}
 use Rattle.refusals.specs.Refusals.{number_of}
-use Rattle.refusals.specs.Answer.{answer_number, granted, require, and_then}
+use Rattle.refusals.specs.Answer.{answer_number, granted, require, and_then, told}
 use Rattle.refusals.specs.declared.Refusal.{Refusal}
 use Rattle.refusals.specs.declared.Refusal.TheVariants.{BadSetup, OutOfRange, NoLink, WrongLength, NoClock}
 use Rattle.times.specs.Times.{circle, second}
@@ -33,6 +33,11 @@ number_granted {answer} e = by answer e
     by : (r : Result ⊤ Refusal) → answer_number r ≡ 0 → r ≡ granted
     by (Ok done) e = refl
     by (Err refusal) e = absurd (no_refusal refusal e)
+
+-- an answer without what it carries has the same number
+pub told_number : {A : Type 0} (answer : Result A Refusal) → answer_number answer ≡ answer_number (told answer)
+told_number (Ok value) = refl
+told_number (Err refusal) = refl
 
 -- what holds of what follows where there is no refusal, and of what is left where there is one, holds of the call
 pub granted_when : {A : Type 0} (P : A → Type 0) (answer : Result ⊤ Refusal) {x y : A} → (answer ≡ granted → P x) → ((refusal : Refusal) → answer ≡ Err refusal → P y)

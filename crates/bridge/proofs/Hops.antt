@@ -130,7 +130,7 @@ passed_on s cs port t out full l e = go (chosen_of b) refl (omega arith)
         let at = chosen_announced b q n in
         let announced = at.1 in
         let above = ⊎_elim
-        (λ silent. cc)
+        (λ silent. absurd cc)
         (λ above. above)
         (run_announces s cs i below) in
         let both : Some (announcing c at.0) ≡ Some (record { precedence = above.fields.precedence; hop = above.held; heard_at = above.heard_at }) = sym announced ∙ above.announced in

@@ -7,6 +7,7 @@ use mathlib.Core.Logic.{inl, inr, ⊎_elim}
 use Prim.Native.Nat.{ℕ, ◌-◌}
 use lib.IntN.{ℤ, pos, ◌+ℤ◌, ◌-ℤ◌}
 use lib.ListN.{length, drop}
+use Rattle.refusals.specs.Answer.{granted}
 use Rattle.numbers.specs.Bytes.{number_at}
 use Rattle.times.specs.Times.{since_of, units, error_of}
 use Rattle.timeline.specs.Sent.{reach_of}
@@ -50,18 +51,17 @@ module _ {b : Bridge} {port t rest : ℕ} {out left : List ℕ} (w : Wrote b por
   signed_written : error_in left ≡ error_of w.fields.error
   signed_written = ap (λ (n : ℕ). error_of (record { 0 = n })) error_written
 
-module _ (b : Bridge) (port t : ℕ) (out : List ℕ) (lawful : Lawful b) (full : FullBridge b) (sent : (send_of b port t (length out)).answer ≡ 0) where
+module _ (b : Bridge) (port t : ℕ) (out : List ℕ) (lawful : Lawful b) (full : FullBridge b) (sent : (send_of b port t (length out)).answer ≡ granted) where
   -- DEMAND 3, in either version
   pub sent_frame_near : OnLine b t (send_bytes b port t out)
   sent_frame_near =
       let w = wrote b port t out sent in
       let r = wrote_read_off w full in
       record {
-        older = r.oldest;
-        newer = r.newest;
+        ends = r.ends;
         kept = r.kept;
         near =
-            subst (λ (n : ℕ). NearLine bound r.oldest r.newest (pos n) (reach_of (since_of (record { 0 = t }) r.newest.local) b.setup.sender.back) b.setup.sender.back) (sym (grand_written w r))
+            subst (λ (n : ℕ). NearLine bound r.ends.oldest r.ends.newest (pos n) (reach_of (since_of (record { 0 = t }) r.ends.newest.local) b.setup.sender.back) b.setup.sender.back) (sym (grand_written w r))
             (sent_near (chosen_samples b) (record { 0 = t }) b.setup.sender.back _ w.fields.grand w.fields.error r (samples_sent b lawful) lawful.setup_lawful.back_small);
       }
 
@@ -76,8 +76,7 @@ module _ (b : Bridge) (port t : ℕ) (out : List ℕ) (lawful : Lawful b) (full 
       let r = wrote_read_off w full in
       let version = sent_frame_version b port t out lawful sent in
       record {
-        older = r.oldest;
-        newer = r.newest;
+        ends = r.ends;
         kept = r.kept;
         says =
             ⊎_elim
@@ -94,11 +93,10 @@ module _ (b : Bridge) (port t : ℕ) (out : List ℕ) (lawful : Lawful b) (full 
       let w = wrote b port t out sent in
       let r = wrote_read_off w full in
       record {
-        older = r.oldest;
-        newer = r.newest;
+        ends = r.ends;
         kept = r.kept;
         near =
-            subst (λ (z : ℤ). NearLine departure_bound r.oldest r.newest z (pos (since_of (record { 0 = t }) r.newest.local)) 0)
-            (λ i. pos (sym (grand_written w r) i) +ℤ sym (signed_written w r) i -ℤ error_of r.newest.error)
+            subst (λ (z : ℤ). NearLine departure_bound r.ends.oldest r.ends.newest z (pos (since_of (record { 0 = t }) r.ends.newest.local)) 0)
+            (λ i. pos (sym (grand_written w r) i) +ℤ sym (signed_written w r) i -ℤ error_of r.ends.newest.error)
             (sent_departs (chosen_samples b) (record { 0 = t }) b.setup.sender.back _ w.fields.grand w.fields.error r (samples_sent b lawful) (stretch_in second_version e) lawful.setup_lawful.back_small);
       }

@@ -49,7 +49,7 @@ use Rattle.bridge.specs.declared.Done.{Done}
 use Rattle.refusals.proofs.Order.{ascends, first_lowest, same_number, Tells, Fails, less_tells, most_tells, less_fails, most_fails, same_fails, first_if, fails_same, Checks, check, check_both, checked, either_fails, first_stays, first_more}
 use Rattle.frame.proofs.Order.{first_require, version_fails, read_order}
 use Rattle.port.proofs.Order.{frame_order, reading_order, departure_order}
-use Rattle.bridge.proofs.CheckLaws.{no_refusal}
+use Rattle.bridge.proofs.CheckLaws.{no_refusal, told_number}
 use Rattle.bridge.proofs.TableLaws.{link_beyond, chosen_lawful}
 
 -- ---- Setup
@@ -227,5 +227,6 @@ send_lowest b port t room l =
     first_lowest 1 (send_ascends b port t room)
     (refused_order b _ _ (port_conditions b.setup.n b.links port t ++ (given 4 (room < 64) ∷ [])) _ refl
     (on_port_order b.setup.n b.links port t (first_require (most_fails 64 room) (nowhere refl)))
+    (same_number (told_number (sending_at (chosen_of b) b (port - 1) (record { 0 = t })))
     (departure_order (chosen_of b) (chosen_samples b) b.setup.sender (version_at b (port - 1)) (record { 0 = t }) (port_at b.ports (port - 1))
-    (chosen_lawful (chosen_of b) b.clock b.ports l.clock_lawful l.ports_lawful) l.setup_lawful.back_small))
+    (chosen_lawful (chosen_of b) b.clock b.ports l.clock_lawful l.ports_lawful) l.setup_lawful.back_small)))

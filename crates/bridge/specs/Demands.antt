@@ -4,16 +4,13 @@ use mathlib.Core.List.{List, [], ◌∷◌, Memᴰ}
 use Rattle.std.specs.Int.Signed.{non_neg}
 use Rattle.std.specs.Float.Ieee.Exact.{HasValue}
 use Rattle.numbers.specs.Bytes.{number_at, Bytes}
-use Rattle.refusals.specs.Answer.{answer_number, granted}
+use Rattle.refusals.specs.Answer.{answer_number}
 use Rattle.refusals.specs.declared.Refusal.{Refusal}
 use Rattle.refusals.specs.declared.Refusal.TheVariants.{LastHopHeard}
 use Rattle.times.specs.Times.{counts, since_of, error_of}
 use Rattle.times.specs.declared.LocalTime.{LocalTime}
-use Rattle.times.specs.declared.GrandTime.{GrandTime}
-use Rattle.times.specs.declared.ErrorTime.{ErrorTime}
 use Rattle.samples.specs.Rate.{parts, scaled_of}
 use Rattle.samples.specs.Keep.{ends_of, rate_between}
-use Rattle.samples.specs.declared.Sample.{Sample}
 use Rattle.samples.specs.declared.Ends.{Ends}
 use Rattle.timeline.specs.Sent.{reach_of, sent_of}
 use Rattle.timeline.specs.Line.{bound, departure_bound, NearLine}
@@ -23,7 +20,6 @@ use Rattle.timeline.specs.declared.Sent.{Sent}
 use Rattle.choice.specs.Hop.{last_hop}
 use Rattle.choice.specs.Choose.{rank_of, number_of, shown_port}
 use Rattle.choice.specs.Precedence.{worst_precedence}
-use Rattle.choice.specs.declared.Precedence.{Precedence}
 use Rattle.choice.specs.declared.Announcement.{Announcement}
 use Rattle.choice.specs.declared.Candidate.{Candidate}
 use Rattle.frame.specs.Read.{read_of}

@@ -104,7 +104,7 @@ module _ {frame : List ℕ} (s : Takes frame) where
       let number : r.clock.number ≡ suc (s.port - 1) = omega (arith, ap number_of r.chosen, o.that_clock, port_within.0) in
       let heard = chosen_announced b r.chosen number in
       let same : r.clock.hop ≡ hop_of (hop_at frame) (hop_before s) = ⊎_elim
-      (λ silent. let none = heard.1 in cc)
+      (λ silent. let none = heard.1 in absurd cc)
       (λ same. same_hop r.clock heard.0 announced.0 (sym heard.1 ∙ same))
       (still_announced o.calls o.no_other) in
       ap hop_at o.written ∙ sym (hop_number _ _ r.read) ∙ same
