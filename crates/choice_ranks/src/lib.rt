@@ -33,34 +33,49 @@ const VARIANCE_VALUES: u64 = 0x1_0000;
 // Both numbers of the rank that stands for no candidate.
 const LAST: u64 = 0xFFFF_FFFF_FFFF_FFFF;
 
+// The rank that stands for no candidate.
+pub const NO_RANK: Rank = Rank(LAST, LAST);
+
 // The rank of a clock.
-fn clock(p: Precedence, hop: u8, number: u8) -> Rank
-    ensures { Ranks result (Candidate.Clock p hop number) }
+#[tactic(auto, using(choice::proofs::RankLaws::clock_numbers, choice::proofs::RankLaws::upper_fits))]
+fn clock(c: Candidate) -> Rank
+    ensures { Ranks result (Some c) }
 {
+    let p = c.precedence;
     Rank(
         choice_order::high(p) * UPPER_CLOCK + p.clock / LOWER_CLOCK,
-        p.clock % LOWER_CLOCK * CLOCK_WEIGHT + hop as u64 * HOP_WEIGHT + number as u64,
+        p.clock % LOWER_CLOCK * CLOCK_WEIGHT + u64::from(c.hop) * HOP_WEIGHT + u64::from(c.number),
     )
 }
 
 // The rank of the own clock, on a station that is capable.
+#[tactic(auto, unfolding(choice::specs::Choose::own_candidate), using(choice::proofs::RankLaws::nothing_rank))]
 pub fn own(capable: bool, precedence: Precedence) -> Rank
     ensures { Ranks result (own_candidate capable precedence) }
 {
     if capable {
-        clock(precedence, 0, 0)
+        clock(Candidate {
+            precedence,
+            hop: 0,
+            number: 0,
+        })
     } else {
-        Rank(LAST, LAST)
+        NO_RANK
     }
 }
 
 // The rank of the clock that is announced at the port with this number.
-pub fn announced(announcement: Announcement, number: u8) -> Rank
+#[tactic(auto, unfolding(choice::specs::Choose::candidate_of), using(choice::proofs::RankLaws::nothing_rank))]
+pub fn announced(announcement: Option<Announcement>, number: u8) -> Rank
     ensures { Ranks result (candidate_of number announcement) }
 {
     match announcement {
-        Announcement::Silent => Rank(LAST, LAST),
-        Announcement::Announced(precedence, hop, _) => clock(precedence, hop, number),
+        None => NO_RANK,
+        Some(heard) => clock(Candidate {
+            precedence: heard.precedence,
+            hop: heard.hop,
+            number,
+        }),
     }
 }
 
@@ -68,26 +83,18 @@ pub fn announced(announcement: Announcement, number: u8) -> Rank
 pub fn precedes(a: Rank, b: Rank) -> bool
     ensures { result ≡ ltb (worth_of a) (worth_of b) }
 {
-    if a.0 < b.0 {
-        return true;
-    }
-    if b.0 < a.0 {
-        return false;
-    }
-    a.1 < b.1
+    a < b
 }
 
 // Whether two ranks are the same.
 pub fn same(a: Rank, b: Rank) -> bool
     ensures { result ≡ same_rank_of a b }
 {
-    if a.0 == b.0 {
-        return a.1 == b.1;
-    }
-    false
+    a == b
 }
 
 // The precedence in a rank.
+#[tactic(auto, unfolding(choice::specs::Rank::precedence_at))]
 fn precedence(rank: Rank) -> Precedence
     requires { rank.1 < lower_end }
     ensures { result ≡ precedence_at rank }
@@ -102,16 +109,17 @@ fn precedence(rank: Rank) -> Precedence
 }
 
 // The candidate with this rank.
-pub fn candidate(rank: Rank) -> Candidate
+#[tactic(auto, unfolding(choice::specs::Rank::candidate_at), using(choice::proofs::RankLaws::lower_within))]
+pub fn candidate(rank: Rank) -> Option<Candidate>
     requires { Ranked rank }
     ensures { result ≡ candidate_at rank }
 {
     if rank.1 == LAST {
-        return Candidate::Nothing;
+        return None;
     }
-    Candidate::Clock(
-        precedence(rank),
-        (rank.1 / HOP_WEIGHT % BYTE_VALUES) as u8,
-        (rank.1 % BYTE_VALUES) as u8,
-    )
+    Some(Candidate {
+        precedence: precedence(rank),
+        hop: (rank.1 / HOP_WEIGHT % BYTE_VALUES) as u8,
+        number: (rank.1 % BYTE_VALUES) as u8,
+    })
 }
