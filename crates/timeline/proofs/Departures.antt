@@ -93,27 +93,27 @@ departure_least k within =
 -- ---- what a frame carries
 
 module _ (samples : Samples) (t : LocalTime) (back stretch : ℕ) (g : GrandTime) (e : ErrorTime) (d : Departure samples t back stretch g e) (lawful : LawfulSamples samples) where
-  abbrev ends : LawfulEnds d.oldest d.newest
-  ends = ends_lawful samples d.oldest d.newest lawful d.kept
+  abbrev lawful_ends : LawfulEnds d.ends.oldest d.ends.newest
+  lawful_ends = ends_lawful samples d.ends lawful d.kept
 
   -- without the rest errorTime is the newest sample's, bit for bit
-  pub sent_heard : stretch ≡ 0 → e.0 ≡ d.newest.error.0
+  pub sent_heard : stretch ≡ 0 → e.0 ≡ d.ends.newest.error.0
   unfolding sent_error
   sent_heard none =
-      let rate = rate_between d.oldest d.newest in
+      let rate = rate_between d.ends.oldest d.ends.newest in
       sym (error_bits e d.bits)
-      ∙ ap (of_z w32) (d.error ∙ ap (error_by rate d.newest) none ∙ no_stretch rate d.newest)
-      ∙ error_bits d.newest.error ends.newest.error
+      ∙ ap (of_z w32) (d.error ∙ ap (error_by rate d.ends.newest) none ∙ no_stretch rate d.ends.newest)
+      ∙ error_bits d.ends.newest.error lawful_ends.newest.error
 
   -- with it, that and what the rate makes of backTime
-  pub sent_with_rest : stretch ≡ back → error_of e ≡ error_of d.newest.error +ℤ scaled_of (rate_between d.oldest d.newest) (pos back)
+  pub sent_with_rest : stretch ≡ back → error_of e ≡ error_of d.ends.newest.error +ℤ scaled_of (rate_between d.ends.oldest d.ends.newest) (pos back)
   unfolding sent_error
-  sent_with_rest all = d.error ∙ ap (error_by (rate_between d.oldest d.newest) d.newest) all
+  sent_with_rest all = d.error ∙ ap (error_by (rate_between d.ends.oldest d.ends.newest) d.ends.newest) all
 
   -- and both times together tell the line at the departure itself
   pub sent_departs : stretch ≡ back → back < longest_elapsed
-      → NearLine departure_bound d.oldest d.newest (pos (units g) +ℤ error_of e -ℤ error_of d.newest.error) (pos (since_of t d.newest.local)) 0
+      → NearLine departure_bound d.ends.oldest d.ends.newest (pos (units g) +ℤ error_of e -ℤ error_of d.ends.newest.error) (pos (since_of t d.ends.newest.local)) 0
   sent_departs all hb =
-      subst (λ (z : ℤ). NearLine departure_bound d.oldest d.newest z (pos (since_of t d.newest.local)) 0)
-      (sym (λ i. d.time i +ℤ (d.error ∙ ap (sent_error d.oldest d.newest) all) i -ℤ error_of d.newest.error))
-      (departure_near d.oldest d.newest (since_of t d.newest.local) back ends d.soon hb)
+      subst (λ (z : ℤ). NearLine departure_bound d.ends.oldest d.ends.newest z (pos (since_of t d.ends.newest.local)) 0)
+      (sym (λ i. d.time i +ℤ (d.error ∙ ap (sent_error d.ends.oldest d.ends.newest) all) i -ℤ error_of d.ends.newest.error))
+      (departure_near d.ends.oldest d.ends.newest (since_of t d.ends.newest.local) back lawful_ends d.soon hb)

@@ -8,24 +8,22 @@ use borrow.Author.Tests.{lt-ltb, le-ltb, ltb-true}
 use lib.Dec.{ltb}
 use lib.IntN.{ℤ, pos, negsuc, nat_abs, ◌+ℤ◌, ◌-ℤ◌, ◌*ℤ◌, -ℤ-+ℤ_cancel, +ℤ_idr}
 use lib.Signed.{mag}
+use Rattle.std.proofs.Common.{Option, Some, None, Result, Ok, Err}
 use Rattle.numbers.specs.Whole.{at_least_zero}
+use Rattle.refusals.specs.declared.Refusal.{Refusal}
+use Rattle.refusals.specs.declared.Refusal.TheVariants.{FewSamples, TooLate, BeyondRange}
 use Rattle.times.specs.Times.{grand_end, since_of, units, InRange, moment_of, error_of, error_end, error_time_of}
 use Rattle.times.specs.declared.LocalTime.{LocalTime}
 use Rattle.times.specs.declared.GrandTime.{GrandTime}
 use Rattle.times.specs.declared.ErrorTime.{ErrorTime}
-use Rattle.times.specs.declared.Moment.{Moment}
-use Rattle.times.specs.declared.Moment.TheVariants as Moments
-use Rattle.times.specs.declared.ErrorWithin.{ErrorWithin}
 use Rattle.samples.specs.Rate.{steepest, scaled_of}
 use Rattle.samples.specs.Keep.{spread_of, rate_between, ends_of, LawfulEnds, LawfulSamples}
 use Rattle.samples.specs.declared.Sample.{Sample}
 use Rattle.samples.specs.declared.Samples.{Samples}
 use Rattle.samples.specs.declared.Ends.{Ends}
-use Rattle.samples.specs.declared.Ends.TheVariants.{Few as TooFew, Both}
 use Rattle.timeline.specs.Line.{InReach, reading_at, bound, line_at, NearLine}
-use Rattle.timeline.specs.Sent.{longest_elapsed, reach_of, sent_time, error_by, sent_error, sent_as_of, sent_through_of, sent_of, sent_no}
+use Rattle.timeline.specs.Sent.{longest_elapsed, reach_of, sent_time, error_by, sent_error, sent_as_of, sent_through_of, sent_of}
 use Rattle.timeline.specs.declared.Sent.{Sent}
-use Rattle.timeline.specs.declared.Sent.TheVariants.{At, Few, Late, Beyond}
 use Rattle.numbers.proofs.Branches.{if_true, if_false, if_when}
 use Rattle.numbers.proofs.Ring.{same, split, of_pos, neg_pos, minus_is, sub_lt, sub_ge, sub_add, sub_mul, sub_neg_is}
 use Rattle.times.proofs.TimeLaws.{moment_is}
@@ -100,92 +98,89 @@ error_small rate b stretch hr h = omega (arith, error_size b.error, scaled_small
 -- ---- what a frame carries, case by case
 
 module _ (samples : Samples) (t : LocalTime) (back stretch : ℕ) where
-  pub sent-through : {e : Ends} → e ≡ ends_of samples → sent_through_of e t back stretch ≡ sent_of samples t back stretch
+  pub sent-through : {e : Option Ends} → e ≡ ends_of samples → sent_through_of e t back stretch ≡ sent_of samples t back stretch
   unfolding sent_of
-  sent-through e = ap (λ (x : Ends). sent_through_of x t back stretch) e
+  sent-through e = ap (λ (x : Option Ends). sent_through_of x t back stretch) e
 
-  pub sent_late : {a b : Sample} → Both a b ≡ ends_of samples → longest_elapsed ≤ since_of t b.local → Late ≡ sent_of samples t back stretch
+  pub sent_late : {ends : Ends} → Some ends ≡ ends_of samples → longest_elapsed ≤ since_of t ends.newest.local → Err TooLate ≡ sent_of samples t back stretch
   sent_late e h = if_false _ _ _ (le-ltb _ _ h) ∙ sent-through e
 
-  pub sent-as : {a b : Sample} {m : Moment} {x : ErrorWithin} → Both a b ≡ ends_of samples → since_of t b.local < longest_elapsed
-      → m ≡ moment_of (sent_time a b (since_of t b.local) back) → x ≡ error_time_of (sent_error a b stretch) → sent_as_of m x ≡ sent_of samples t back stretch
+  pub sent-as : {ends : Ends} {m : Option GrandTime} {x : Option ErrorTime} → Some ends ≡ ends_of samples → since_of t ends.newest.local < longest_elapsed
+      → m ≡ moment_of (sent_time ends.oldest ends.newest (since_of t ends.newest.local) back) → x ≡ error_time_of (sent_error ends.oldest ends.newest stretch) → sent_as_of m x ≡ sent_of samples t back stretch
   sent-as e h k l = (λ i. sent_as_of (k i) (l i)) ∙ if_true _ _ _ (lt-ltb _ _ h) ∙ sent-through e
 
   -- neither fits in a frame: the sent time is at the end of grand time or below zero, or errorTime leaves its bits
-  abbrev pub Unfit : Sample → Sample → Type 0
-  Unfit a b = ((n : ℕ) → sent_time a b (since_of t b.local) back ≡ pos n → grand_end ≤ n) ⊎ (error_end ≤ mag (sent_error a b stretch))
+  abbrev pub Unfit : Ends → Type 0
+  Unfit ends =
+      ((n : ℕ) → sent_time ends.oldest ends.newest (since_of t ends.newest.local) back ≡ pos n → grand_end ≤ n)
+      ⊎ (error_end ≤ mag (sent_error ends.oldest ends.newest stretch))
 
   -- what holds in each case holds of what a frame carries
-  pub sent_is : (P : Sent → Type 0) → P Few → P Late
-      → ((a b : Sample) (g : GrandTime) (e : ErrorTime) → ends_of samples ≡ Both a b → since_of t b.local < longest_elapsed
-      → InRange g → pos (units g) ≡ sent_time a b (since_of t b.local) back → e.0 < 2 ^ 32 → error_of e ≡ sent_error a b stretch → P (At g e))
-      → ((a b : Sample) → ends_of samples ≡ Both a b → since_of t b.local < longest_elapsed → Unfit a b → P Beyond)
+  pub sent_is : (P : Result Sent Refusal → Type 0) → P (Err FewSamples) → P (Err TooLate)
+      → ((ends : Ends) (times : Sent) → ends_of samples ≡ Some ends → since_of t ends.newest.local < longest_elapsed
+      → InRange times.grand → pos (units times.grand) ≡ sent_time ends.oldest ends.newest (since_of t ends.newest.local) back
+      → times.error.0 < 2 ^ 32 → error_of times.error ≡ sent_error ends.oldest ends.newest stretch → P (Ok times))
+      → ((ends : Ends) → ends_of samples ≡ Some ends → since_of t ends.newest.local < longest_elapsed → Unfit ends → P (Err BeyondRange))
       → P (sent_of samples t back stretch)
   unfolding sent_of
   sent_is P few late at beyond = by (ends_of samples) refl
     where
-      by : (e : Ends) → ends_of samples ≡ e → P (sent_through_of e t back stretch)
-      by TooFew k = few
-      by (Both a b) k =
-          if_when P (ltb (since_of t b.local) longest_elapsed)
+      by : (e : Option Ends) → ends_of samples ≡ e → P (sent_through_of e t back stretch)
+      by None k = few
+      by (Some ends) k =
+          if_when P (ltb (since_of t ends.newest.local) longest_elapsed)
           (λ q.
           let l = ltb-true _ _ q in
-          let z = sent_time a b (since_of t b.local) back in
-          let y = sent_error a b stretch in
-          moment_is (λ (m : Moment). P (sent_as_of m (error_time_of y))) z
-          (λ g r u. error_is (λ (x : ErrorWithin). P (sent_as_of (Moments.At g) x)) y (λ e s v. at a b g e k l r u s v) (λ out. beyond a b k l (inr out)))
-          (λ end. beyond a b k l (inl end)))
+          let z = sent_time ends.oldest ends.newest (since_of t ends.newest.local) back in
+          let y = sent_error ends.oldest ends.newest stretch in
+          moment_is (λ (m : Option GrandTime). P (sent_as_of m (error_time_of y))) z
+          (λ g r u.
+          error_is (λ (x : Option ErrorTime). P (sent_as_of (Some g) x)) y
+          (λ e s v. at ends (record { grand = g; error = e }) k l r u s v)
+          (λ out. beyond ends k l (inr out)))
+          (λ end. beyond ends k l (inl end)))
           (λ _. late)
 
   -- 13 is answered only where the sent time reaches the end of grand time, for the part below zero never occurs, or where errorTime leaves its bits
-  pub sent_beyond : LawfulSamples samples → back < longest_elapsed → sent_of samples t back stretch ≡ Beyond
-      → (a : Sample) × (b : Sample) × (ends_of samples ≡ Both a b)
-      × ((grand_end ≤ at_least_zero (sent_time a b (since_of t b.local) back)) ⊎ (error_end ≤ mag (sent_error a b stretch)))
+  pub sent_beyond : LawfulSamples samples → back < longest_elapsed → sent_of samples t back stretch ≡ Err BeyondRange
+      → (ends : Ends) × (ends_of samples ≡ Some ends)
+      × ((grand_end ≤ at_least_zero (sent_time ends.oldest ends.newest (since_of t ends.newest.local) back)) ⊎ (error_end ≤ mag (sent_error ends.oldest ends.newest stretch)))
   sent_beyond w hb =
       sent_is
-      (λ (s : Sent). s ≡ Beyond → (a : Sample) × (b : Sample) × (ends_of samples ≡ Both a b)
-      × ((grand_end ≤ at_least_zero (sent_time a b (since_of t b.local) back)) ⊎ (error_end ≤ mag (sent_error a b stretch))))
-      (λ q. absurd (omega (arith, ap sent_no q)))
-      (λ q. absurd (omega (arith, ap sent_no q)))
-      (λ _ _ _ _ _ _ _ _ _ _ q. absurd (omega (arith, ap sent_no q)))
-      (λ a b k l unfit _. (a, b, k, ⊎_elim (λ end. inl (end _ (sym (sent_units a b _ back l hb (ends_lawful samples a b w k))))) inr unfit))
+      (λ (s : Result Sent Refusal). s ≡ Err BeyondRange → (ends : Ends) × (ends_of samples ≡ Some ends)
+      × ((grand_end ≤ at_least_zero (sent_time ends.oldest ends.newest (since_of t ends.newest.local) back)) ⊎ (error_end ≤ mag (sent_error ends.oldest ends.newest stretch))))
+      (λ q. absurd cc)
+      (λ q. absurd cc)
+      (λ _ _ _ _ _ _ _ _ q. absurd cc)
+      (λ ends k l unfit _.
+      (ends, k, ⊎_elim (λ end. inl (end _ (sym (sent_units ends.oldest ends.newest _ back l hb (ends_lawful samples ends w k))))) inr unfit))
 
 -- ---- what times that are sent tell: the two ends of the samples, the moment on the line through them, and the errorTime
 
 pub record Departure (samples : Samples) (t : LocalTime) (back stretch : ℕ) (g : GrandTime) (e : ErrorTime) : Type 0 where
-  pub oldest : Sample
-  pub newest : Sample
-  pub kept : ends_of samples ≡ Both oldest newest
-  pub soon : since_of t newest.local < longest_elapsed
+  pub ends : Ends
+  pub kept : ends_of samples ≡ Some ends
+  pub soon : since_of t ends.newest.local < longest_elapsed
   pub range : InRange g
-  pub time : pos (units g) ≡ sent_time oldest newest (since_of t newest.local) back
+  pub time : pos (units g) ≡ sent_time ends.oldest ends.newest (since_of t ends.newest.local) back
   pub bits : e.0 < 2 ^ 32
-  pub error : error_of e ≡ sent_error oldest newest stretch
+  pub error : error_of e ≡ sent_error ends.oldest ends.newest stretch
 
-module _ (samples : Samples) (t : LocalTime) (back stretch : ℕ) (g : GrandTime) (e : ErrorTime) where
-  pub departure : sent_of samples t back stretch ≡ At g e → Departure samples t back stretch g e
-  departure =
-      sent_is samples t back stretch (λ (s : Sent). s ≡ At g e → Departure samples t back stretch g e)
-      (λ q. absurd (omega (arith, ap sent_no q)))
-      (λ q. absurd (omega (arith, ap sent_no q)))
-      (λ a b h x k l r z s v q.
-      let p : h ≡ g = cc in
-      let y : x ≡ e = cc in
-      record {
-        oldest = a;
-        newest = b;
-        kept = k;
-        soon = l;
-        range = subst InRange p r;
-        time = ap (λ (x : GrandTime). pos (units x)) (sym p) ∙ z;
-        bits = subst (λ (x : ErrorTime). x.0 < 2 ^ 32) y s;
-        error = ap error_of (sym y) ∙ v;
-      })
-      (λ _ _ _ _ _ q. absurd (omega (arith, ap sent_no q)))
+module _ (samples : Samples) (t : LocalTime) (back stretch : ℕ) where
+  pub departure : (times : Sent) → sent_of samples t back stretch ≡ Ok times → Departure samples t back stretch times.grand times.error
+  departure times =
+      sent_is samples t back stretch (λ (s : Result Sent Refusal). s ≡ Ok times → Departure samples t back stretch times.grand times.error)
+      (λ q. absurd cc)
+      (λ q. absurd cc)
+      (λ ends found k l r z s v q.
+      let same : found ≡ times = cc in
+      subst (λ (x : Sent). Departure samples t back stretch x.grand x.error) same
+      (record { ends = ends; kept = k; soon = l; range = r; time = z; bits = s; error = v }))
+      (λ _ _ _ _ q. absurd cc)
 
   -- demand 3 for what a frame carries, whatever rest errorTime takes in
-  pub sent_near : (d : Departure samples t back stretch g e) → LawfulSamples samples → back < longest_elapsed
-      → NearLine bound d.oldest d.newest (pos (units g)) (reach_of (since_of t d.newest.local) back) back
-  sent_near d w hb =
-      subst (λ (z : ℤ). NearLine bound d.oldest d.newest z (reach_of (since_of t d.newest.local) back) back) (sym d.time)
-      (time_near d.oldest d.newest (since_of t d.newest.local) back d.soon hb (ends_lawful samples d.oldest d.newest w d.kept))
+  pub sent_near : (g : GrandTime) (e : ErrorTime) (d : Departure samples t back stretch g e) → LawfulSamples samples → back < longest_elapsed
+      → NearLine bound d.ends.oldest d.ends.newest (pos (units g)) (reach_of (since_of t d.ends.newest.local) back) back
+  sent_near g e d w hb =
+      subst (λ (z : ℤ). NearLine bound d.ends.oldest d.ends.newest z (reach_of (since_of t d.ends.newest.local) back) back) (sym d.time)
+      (time_near d.ends.oldest d.ends.newest (since_of t d.ends.newest.local) back d.soon hb (ends_lawful samples d.ends w d.kept))

@@ -1,6 +1,6 @@
 -- Drift in parts per million.
-use Rattle.std.specs.Prelude.{not, ℕ, ◌*◌, ℤ, nat_abs, Float}
-use Rattle.std.proofs.Math.Option.{Option, none, some}
+use Rattle.std.specs.Prelude.{not, ℕ, ◌*◌, Option, Some, None, ℤ, nat_abs, Float}
+use Rattle.std.proofs.Math.Option as Reading
 use Rattle.std.specs.Int.Signed.{non_neg}
 use Rattle.std.specs.Float.{binary64}
 use Rattle.std.specs.Float.Ieee.{round}
@@ -9,7 +9,6 @@ use Rattle.samples.specs.Rate.{parts}
 use Rattle.samples.specs.Keep.{ends_of, rate_between}
 use Rattle.samples.specs.declared.Samples.{Samples}
 use Rattle.samples.specs.declared.Ends.{Ends}
-use Rattle.samples.specs.declared.Ends.TheVariants.{Few, Both}
 use Rattle.timeline.specs.declared.Drift.{Drift}
 use Rattle.timeline.specs.declared.Drift.TheVariants.{NoReading, PartsPerMillion, Refused}
 
@@ -21,9 +20,9 @@ unfoldable pub ppm_of : ℤ → Float
 ppm_of rate = round binary64 (not (non_neg rate)) (nat_abs rate * million) parts
 
 -- the drift of a clock, by the two ends of its samples
-abbrev pub drift_through_of : Ends → Drift
-drift_through_of Few = NoReading
-drift_through_of (Both a b) = PartsPerMillion (ppm_of (rate_between a b))
+abbrev pub drift_through_of : Option Ends → Drift
+drift_through_of None = NoReading
+drift_through_of (Some ends) = PartsPerMillion (ppm_of (rate_between ends.oldest ends.newest))
 
 unfoldable pub drift_of : Samples → Drift
 drift_of samples = drift_through_of (ends_of samples)
@@ -34,12 +33,12 @@ drift_no NoReading = done
 drift_no (PartsPerMillion x) = done
 drift_no Refused = out_of_range
 
-abbrev pub drift_reading : Drift → Option Float
-drift_reading NoReading = none
-drift_reading (PartsPerMillion x) = some x
-drift_reading Refused = none
+abbrev pub drift_reading : Drift → Reading.Option Float
+drift_reading NoReading = Reading.none
+drift_reading (PartsPerMillion x) = Reading.some x
+drift_reading Refused = Reading.none
 
 -- the reading by the two ends of a clock's samples: none of too few, else the rate between them in parts per million
-abbrev pub reading_through : Ends → Option Float
-reading_through Few = none
-reading_through (Both a b) = some (ppm_of (rate_between a b))
+abbrev pub reading_through : Option Ends → Reading.Option Float
+reading_through None = Reading.none
+reading_through (Some ends) = Reading.some (ppm_of (rate_between ends.oldest ends.newest))

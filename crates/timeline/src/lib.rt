@@ -7,21 +7,20 @@ ghost use Rattle.samples.specs.Rate.{steepest};
 ghost use Rattle.timeline.specs.Line.{InReach, reading_by};
 
 use samples::Sample;
-use times::{ErrorTime, GrandTime, Moment, grand};
+use times::{ErrorTime, GrandTime, grand};
 
 pub mod departure;
 pub mod ppm;
 
-// The grand time and errorTime of a frame to be sent, or why there is none: too few samples, too late, beyond the range.
+// The grand time and errorTime of a frame to be sent.
 #[derive(Clone, Copy)]
-pub enum Sent {
-    At(GrandTime, ErrorTime),
-    Few,
-    Late,
-    Beyond,
+pub struct Sent {
+    pub grand: GrandTime,
+    pub error: ErrorTime,
 }
 
 // A clock's drift: too few samples, exact parts per million, or no such clock.
+// An enum of its own: document 01 answers Drift in these three forms (`drift_no`, `drift_reading`), and no reading is no refusal.
 #[derive(Clone, Copy)]
 pub enum Drift {
     NoReading,
@@ -30,7 +29,7 @@ pub enum Drift {
 }
 
 // The line of this rate read at a distance x from the newest sample, before it where x is below zero, and `more` added.
-pub fn reading(newest: Sample, rate: i64, x: i64, more: u64) -> Moment
+pub fn reading(newest: Sample, rate: i64, x: i64, more: u64) -> Option<GrandTime>
     requires in_range { InRange newest.grand }
     requires rate_bound { nat_abs rate ≤ steepest }
     requires in_reach { InReach x more }

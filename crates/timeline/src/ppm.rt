@@ -26,9 +26,9 @@ pub fn drift(samples: Samples) -> Drift
     ensures { result ≡ drift_of samples }
 {
     match samples_kept::ends(samples) {
-        Ends::Few => Drift::NoReading,
-        Ends::Both(oldest, newest) => {
+        Some(Ends { oldest, newest }) => {
             Drift::PartsPerMillion(parts_per_million(samples_kept::rate_between(oldest, newest)))
         }
+        None => Drift::NoReading,
     }
 }
