@@ -2,10 +2,9 @@
 use mathlib.Core.Path.{◌≡◌, refl, sym, ap, ◌∙◌, subst}
 use Prim.Native.Nat.{ℕ, zero, suc, ◌+◌, ◌*◌, ◌-◌, ◌/◌, ◌%◌, ◌<◌, ◌≤◌}
 use mathlib.Core.List.{List, [], ◌∷◌, ◌++◌, append_assoc}
-use native.Mathlib.Numerals.{add-one}
 use native.Mathlib.Omega.{arith}
-use lib.ListN.{length, take, drop, get_or, take-append-drop, length-append}
-use lib.Seq.{drop-cons, length-take-le, take-append-le, take-take, take_at, drop_at, drop-drop}
+use lib.ListN.{length, take, drop, take-append-drop, length-append}
+use lib.Seq.{length-take-le, take-append-le, take-take, take_at, drop_at, drop-drop}
 use Rattle.numbers.specs.Bytes.{number_bytes}
 use Rattle.numbers.proofs.Places.{length_digits}
 use Rattle.hexadecimal.specs.Print.{text_of, with_byte_of}
@@ -94,16 +93,16 @@ puts_both was mid left s t at m end h p q =
 
 -- ---- one column more
 
-module _ (ws : List ℕ) (i : ℕ) (h : i < length ws) where
-  pub next_room : room (drop i ws) ≡ column_room (get_or ws i 0) + room (drop (i + 1) ws)
-  next_room = rw (add-one, drop-cons ws i 0 h) refl
+pub next_column : (w v : ℕ) (ws vs out mid left : List ℕ) (at m end : ℕ) → at ≤ length out → Puts (column_text w v) at m out mid → Puts (columns_text ws vs) m end mid left
+    → Puts (columns_text (w ∷ ws) (v ∷ vs)) at end out left
+unfolding columns_text
+next_column w v ws vs out mid left at m end k p q = puts_both out mid left (column_text w v) (columns_text ws vs) at m end k p q
 
-  pub next_column : (vs out mid left : List ℕ) (at m end : ℕ) → i < length vs → at ≤ length out → Puts (column_text (get_or ws i 0) (get_or vs i 0)) at m out mid
-      → Puts (columns_text (drop (i + 1) ws) (drop (i + 1) vs)) m end mid left → Puts (columns_text (drop i ws) (drop i vs)) at end out left
-  unfolding columns_text
-  next_column vs out mid left at m end l k p q =
-      rw (drop-cons ws i 0 h, drop-cons vs i 0 l)
-      (puts_both out mid left (column_text (get_or ws i 0) (get_or vs i 0)) (columns_text (drop (suc i) ws) (drop (suc i) vs)) at m end k p (rw add-one at q))
+-- and none
+pub no_columns : (ws vs : List ℕ) → length ws ≡ 0 → columns_text ws vs ≡ []
+unfolding columns_text
+no_columns [] vs e = refl
+no_columns (w ∷ ws) vs e = absurd (omega arith)
 
 -- ---- for callers
 

@@ -36,11 +36,9 @@ fn put_number(out: &mut [u8], at: usize, width: usize, value: u64)
     ensures { out.new ≡ take at out.old ++ (text_of (number_bytes width value) ++ drop (at + width * 2) out.old) }
 {
     let mut rest = value;
-    let mut i = width;
-    while 0 < i {
-        i -= 1;
+    for i in (0..width).rev() {
         text::put_byte(out, at + i * digits::DIGITS, (rest % BYTE_VALUES) as u8);
-        rest = rest / BYTE_VALUES;
+        rest /= BYTE_VALUES;
     }
 }
 
@@ -59,6 +57,7 @@ fn put_column(out: &mut [u8], at: usize, width: usize, value: u64) -> usize
 }
 
 // Prints columns at the start of the output, and answers their length.
+// Widths and values are two slices and no slice of pairs: the clause `widths_in_bounds` and `columns_text` speak of each by itself.
 pub fn put(out: &mut [u8], widths: &[usize], values: &[u64]) -> usize
     requires widths_len { length widths.now ≡ length values.now }
     requires widths_in_bounds { room widths.now ≤ length out.old }
@@ -66,10 +65,8 @@ pub fn put(out: &mut [u8], widths: &[usize], values: &[u64]) -> usize
     ensures out_after { out.new ≡ columns_text widths.now values.now ++ drop result out.old }
 {
     let mut at = 0;
-    let mut i = 0;
-    while i < widths.len() {
-        at = put_column(out, at, widths[i], values[i]);
-        i += 1;
+    for (width, value) in widths.iter().zip(values) {
+        at = put_column(out, at, *width, *value);
     }
     at
 }
@@ -80,7 +77,7 @@ fn put_text(out: &mut [u8], at: usize, bytes: &[u8]) -> usize
     ensures value { result ≡ at + length (bytes_text bytes.now) }
     ensures out_after { out.new ≡ take at out.old ++ (bytes_text bytes.now ++ drop result out.old) }
 {
-    if bytes.len() == 0 {
+    if bytes.is_empty() {
         return put_column(out, at, CHARACTER, NO_BYTES);
     }
     text::put_at(bytes, out, at);
@@ -112,7 +109,7 @@ pub fn one(out: &mut [u8], a: u8) -> usize
     requires { longest_answer ≤ length out.old }
     ensures { Prints (line1 a) result out.old out.new }
 {
-    line(out, &[BYTE, CHARACTER], &[a as u64, NEWLINE])
+    line(out, &[BYTE, CHARACTER], &[u64::from(a), NEWLINE])
 }
 
 // Prints two bytes.
@@ -123,7 +120,7 @@ pub fn two(out: &mut [u8], a: u8, b: u8) -> usize
     line(
         out,
         &[BYTE, CHARACTER, BYTE, CHARACTER],
-        &[a as u64, SPACE, b as u64, NEWLINE],
+        &[u64::from(a), SPACE, u64::from(b), NEWLINE],
     )
 }
 
@@ -135,7 +132,14 @@ pub fn three(out: &mut [u8], a: u8, b: u8, c: u8) -> usize
     line(
         out,
         &[BYTE, CHARACTER, BYTE, CHARACTER, BYTE, CHARACTER],
-        &[a as u64, SPACE, b as u64, SPACE, c as u64, NEWLINE],
+        &[
+            u64::from(a),
+            SPACE,
+            u64::from(b),
+            SPACE,
+            u64::from(c),
+            NEWLINE,
+        ],
     )
 }
 
@@ -145,7 +149,7 @@ pub fn with_bytes(out: &mut [u8], a: u8, bytes: &[u8]) -> usize
     requires longest_answer_in_bounds { longest_answer ≤ length out.old }
     ensures { Prints (line_with a bytes.now) result out.old out.new }
 {
-    let at = put(out, &[BYTE, CHARACTER], &[a as u64, SPACE]);
+    let at = put(out, &[BYTE, CHARACTER], &[u64::from(a), SPACE]);
     put_bytes(out, at, bytes)
 }
 
@@ -157,7 +161,7 @@ pub fn with_time(out: &mut [u8], a: u8, seconds: u64, fraction: u64) -> usize
     line(
         out,
         &[BYTE, CHARACTER, HALF_TIME, HALF_TIME, CHARACTER],
-        &[a as u64, SPACE, seconds, fraction, NEWLINE],
+        &[u64::from(a), SPACE, seconds, fraction, NEWLINE],
     )
 }
 

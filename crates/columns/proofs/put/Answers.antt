@@ -1,42 +1,44 @@
 -- Where the columns that are left are put from here on, all are put from the start.
-use mathlib.Core.Path.{◌≡◌, refl, ap, ◌∙◌}
-use mathlib.Core.List.{[]}
-use Prim.Native.Nat.{ℕ, ◌<◌}
+use mathlib.Core.Path.{◌≡◌, ap, ◌∙◌}
+use mathlib.Core.Logic.{inl, inr}
 use native.Mathlib.Omega.{arith}
-use lib.ListN.{length, drop, get_or}
-use lib.Seq.{drop-length}
-use Rattle.columns.specs.Columns.{columns_text}
-use Rattle.columns.proofs.ColumnLaws.{length_column, puts_nothing, next_room, next_column}
+use lib.ListN.{length}
+use Rattle.std.specs.Iterator.Adapters.{zip_first}
+use Rattle.std.specs.Slice.Iter.{iter_rest}
+use Rattle.columns.specs.Columns.{columns_text, room}
+use Rattle.columns.proofs.ColumnLaws.{Puts, length_column, puts_nothing, next_column, no_columns}
 use borrow.Author.Rules.{rules}
 use Rattle.columns.proofs.put.Goals as goal
-use Rattle.columns.proofs.put.Goals.{At-loop-i, Start}
-
-pub loop-i-init : goal.loop-i-init
-loop-i-init c = (search rules, refl, search rules, λ left end p. p)
+use Rattle.columns.proofs.put.Goals.{In-None}
 
 pub put_column-at-requires : goal.put_column-at-requires
-put_column-at-requires c =
-    let l = c.loop-i in
-    omega (arith, next_room c.args.widths.now l.i (omega arith))
+put_column-at-requires c = omega (arith, c.loop-width.invariant.fits, ap room c.in-Some.ensures.steps.0)
 
-pub loop-i-preserved : goal.loop-i-preserved
-loop-i-preserved c =
-    let l = c.loop-i in
-    let a = c.args in
-    let ws = a.widths.now in
-    let vs = a.values.now in
-    let h : l.i < length ws = omega arith in (
-      omega arith,
-      search rules,
-      omega (arith, next_room ws l.i h, length_column (get_or ws l.i 0) (get_or vs l.i 0), c.put_column-at.ensures.value, c.put_column-at.auto.out),
-      λ left end q. l.invariant.3 left end (next_column ws l.i h vs l.out c.put_column-at.new.out left l.at c.put_column-at.result end (omega arith) (omega arith) c.put_column-at.ensures q),
-    )
+pub loop-width-preserved : goal.loop-width-preserved
+loop-width-preserved c =
+    let l = c.loop-width in
+    let h = c.in-Some.ensures.steps in
+    let p = c.put_column-at in record {
+      as_many = omega (arith, ap length h.0, ap length h.1, l.invariant.as_many);
+      same_len = search rules;
+      fits = omega (arith, ap room h.0, l.invariant.fits, length_column c.in-Some.width.now c.in-Some.value.now, p.ensures.value, p.auto.out);
+      puts = λ left end q.
+          l.invariant.puts left end
+          (rw (h.0, h.1) (next_column c.in-Some.width.now c.in-Some.value.now _ _ l.out p.new.out left l.at p.result end (omega (arith, l.invariant.fits)) p.ensures q));
+    }
 
-pub returns : goal.returns
-unfolding columns_text
-returns c =
-    let l = c.loop-i in
-    let e : l.i ≡ length c.args.widths.now = omega arith in
-    let z : drop l.i c.args.widths.now ≡ [] = ap (λ (n : ℕ). drop n c.args.widths.now) e ∙ drop-length c.args.widths.now in
-    let p = l.invariant.3 l.out l.at (rw z (puts_nothing l.at l.out)) in
-    record { value = omega (arith, p.value); out_after = p.out_after }
+-- no width is left, since there are as many values
+ended : (c : In-None) → length (iter_rest (zip_first c.loop-width.width-iterator)) ≡ 0
+ended c = elim c.in-None.ensures.steps [ inl p ↦ p.1.0 | inr p ↦ c.loop-width.invariant.as_many ∙ p.1.0 ]
+
+-- so all are put
+all : (c : In-None) → Puts (columns_text c.args.widths.now c.args.values.now) 0 c.loop-width.at c.args.out.now c.loop-width.out
+all c =
+    let l = c.loop-width in
+    l.invariant.puts l.out l.at (rw (no_columns _ _ (ended c)) (puts_nothing l.at l.out))
+
+pub returns-clause-value : goal.returns-clause-value
+returns-clause-value c = omega (arith, (all (goal.at.returns-clause-value c).In-None).value)
+
+pub returns-clause-out_after : goal.returns-clause-out_after
+returns-clause-out_after c = (all (goal.at.returns-clause-out_after c).In-None).out_after

@@ -18,11 +18,12 @@ start-length a = length_columns (1 ∷ 0 ∷ []) (a ∷ space ∷ []) refl
 
 pub put_bytes-requires : goal.put_bytes-requires
 put_bytes-requires c =
-    omega (arith, c.put-at.ensures.value, start-length c.args.a, c.put-at.auto.out, c.requires.bytes_len_bound, c.requires.longest_answer_in_bounds)
+    omega (arith, c.put-at.ensures.value, start-length c.from.result, c.put-at.auto.out, c.requires.bytes_len_bound, c.requires.longest_answer_in_bounds)
 
 pub returns : goal.returns
 returns c =
     let b = c.args.bytes.now in
-    printed
-    (puts_both c.args.out.now c.put-at.new.out c.put_bytes.new.out (start c.args.a) (bytes_line b) 0 c.put-at.result c.put_bytes.result (omega arith) record { value = omega (arith, c.put-at.ensures.value); out_after = c.put-at.ensures.out_after } c.put_bytes.ensures)
-    (omega (arith, c.put-at.ensures.value, start-length c.args.a, c.put_bytes.ensures.value, bytes_most b c.requires.bytes_len_bound))
+    rw (← c.from.ensures)
+    (printed
+    (puts_both c.args.out.now c.put-at.new.out c.put_bytes.new.out (start c.from.result) (bytes_line b) 0 c.put-at.result c.put_bytes.result (omega arith) record { value = omega (arith, c.put-at.ensures.value); out_after = c.put-at.ensures.out_after } c.put_bytes.ensures)
+    (omega (arith, c.put-at.ensures.value, start-length c.from.result, c.put_bytes.ensures.value, bytes_most b c.requires.bytes_len_bound)))
