@@ -8,42 +8,39 @@ ghost use Rattle.frame.specs.Read.{constants_refusal};
 ghost use Rattle.frame.specs.Promises.{ReadPromise};
 
 use choice::Precedence;
-use frame::{Fields, Mac, Reading, layout, version};
+use frame::layout::ROWS;
+use frame::{Fields, Mac, layout, version};
+use refusals::Refusal;
 use times::{ErrorTime, GrandTime, LocalTime};
 
-// What stands in every frame.
+// What stands in every frame: the receivers' address, the protocolType, and the function.
 pub const STATION_ADDRESS: u64 = 0x0180_C200_000E;
 
 pub const LOCAL_EXPERIMENTAL: u64 = 0x88B5;
 
 pub const TIME_SYNC: u64 = 1;
 
-// Why the constants of a frame are refused, or 0.
-fn constants_refusal(values: [u64; 24]) -> u8
-    ensures { result ≡ constants_refusal values }
+// Why the constants of a frame are refused, or nothing.
+fn constants_refusal(values: &[u64; ROWS]) -> Result<(), Refusal>
+    ensures { result ≡ constants_refusal values.now }
 {
-    if values[layout::DA] != STATION_ADDRESS {
-        return refusals::WRONG_CONSTANT;
+    if values[layout::DA] != STATION_ADDRESS
+        || values[layout::PROTOCOL_TYPE] != LOCAL_EXPERIMENTAL
+        || values[layout::FUNCTION] != TIME_SYNC
+        || values[layout::ZERO] != 0
+    {
+        return Err(Refusal::WrongConstant);
     }
-    if values[layout::PROTOCOL_TYPE] != LOCAL_EXPERIMENTAL {
-        return refusals::WRONG_CONSTANT;
+    if !version::is_version(values[layout::VERSION]) {
+        return Err(Refusal::WrongVersion);
     }
-    if values[layout::FUNCTION] != TIME_SYNC {
-        return refusals::WRONG_CONSTANT;
-    }
-    if values[layout::ZERO] != 0 {
-        return refusals::WRONG_CONSTANT;
-    }
-    if version::is_version(values[layout::VERSION]) {
-        return refusals::DONE;
-    }
-    refusals::WRONG_VERSION
+    Ok(())
 }
 
 // The sender's address.
-fn mac(values: [u64; 24]) -> Mac
-    requires { Held widths values }
-    ensures { result ≡ mac_of values }
+fn mac(values: &[u64; ROWS]) -> Mac
+    requires { Held widths values.now }
+    ensures { result ≡ mac_of values.now }
 {
     Mac(
         values[layout::SA] as u8,
@@ -56,9 +53,9 @@ fn mac(values: [u64; 24]) -> Mac
 }
 
 // The precedence of the clock that the frame is from.
-fn precedence(values: [u64; 24]) -> Precedence
-    requires { Held widths values }
-    ensures { result ≡ precedence_in values }
+fn precedence(values: &[u64; ROWS]) -> Precedence
+    requires { Held widths values.now }
+    ensures { result ≡ precedence_in values.now }
 {
     Precedence {
         priority1: values[layout::PRIORITY1] as u8,
@@ -69,16 +66,14 @@ fn precedence(values: [u64; 24]) -> Precedence
     }
 }
 
-// All fields.
-fn fields(values: [u64; 24]) -> Fields
-    requires { Held widths values }
-    ensures { result ≡ fields_of values }
+// All fields of a frame.
+fn fields(values: &[u64; ROWS]) -> Fields
+    requires { Held widths values.now }
+    ensures { result ≡ fields_of values.now }
 {
-    let sa = mac(values);
-    let precedence = precedence(values);
     Fields {
-        sa: sa,
-        precedence: precedence,
+        sa: mac(values),
+        precedence: precedence(values),
         hop: values[layout::HOP] as u8,
         count: values[layout::COUNT] as u8,
         grand: GrandTime(values[layout::SECONDS], values[layout::FRACTION]),
@@ -90,17 +85,14 @@ fn fields(values: [u64; 24]) -> Fields
     }
 }
 
-// The fields of a frame, or 4, 5 or 6.
-pub fn read(frame: &[u8]) -> Reading
+// The fields of a frame, or why it is refused: its length, its constants or its version.
+pub fn read(frame: &[u8]) -> Result<Fields, Refusal>
     ensures { ReadPromise frame.now result }
 {
     if frame.len() != layout::FRAME_LENGTH {
-        return Reading::Refused(refusals::WRONG_LENGTH);
+        return Err(Refusal::WrongLength);
     }
     let values = layout::parts(frame);
-    let no = constants_refusal(values);
-    if no != refusals::DONE {
-        return Reading::Refused(no);
-    }
-    Reading::Frame(fields(values))
+    constants_refusal(&values)?;
+    Ok(fields(&values))
 }
