@@ -6,84 +6,79 @@ ghost use Rattle.frame.specs.Frame.{frame_length, values_of};
 ghost use Rattle.frame.specs.Write.{write_refusal, bytes_of};
 ghost use Rattle.frame.specs.Promises.{WritePromise};
 
+use frame::layout::ROWS;
 use frame::{Fields, layout, version};
+use refusals::Refusal;
 use times::{grand, local};
 
 // The numbers that the fields put into a frame.
-fn values(f: Fields) -> [u64; 24]
-    ensures { result ≡ values_of f }
+fn values(f: &Fields) -> [u64; ROWS]
+    ensures { result ≡ values_of f.now }
 {
     [
         frame_read::STATION_ADDRESS,
-        f.sa.0 as u64,
-        f.sa.1 as u64,
-        f.sa.2 as u64,
-        f.sa.3 as u64,
-        f.sa.4 as u64,
-        f.sa.5 as u64,
+        u64::from(f.sa.0),
+        u64::from(f.sa.1),
+        u64::from(f.sa.2),
+        u64::from(f.sa.3),
+        u64::from(f.sa.4),
+        u64::from(f.sa.5),
         frame_read::LOCAL_EXPERIMENTAL,
         frame_read::TIME_SYNC,
-        f.version as u64,
-        f.precedence.priority1 as u64,
-        f.precedence.source as u64,
-        f.precedence.variance as u64,
-        f.precedence.priority2 as u64,
+        u64::from(f.version),
+        u64::from(f.precedence.priority1),
+        u64::from(f.precedence.source),
+        u64::from(f.precedence.variance),
+        u64::from(f.precedence.priority2),
         f.precedence.clock,
-        f.hop as u64,
-        f.count as u64,
+        u64::from(f.hop),
+        u64::from(f.count),
         0,
         f.grand.0,
         f.grand.1,
         f.local.0,
         f.tx.0,
         f.rx.0,
-        f.error.0 as u64,
+        u64::from(f.error.0),
     ]
 }
 
-// Why fields are not written into an output of this length, or 0.
-fn write_refusal(f: Fields, room: usize) -> u8
-    ensures { result ≡ write_refusal f room }
+// Why fields are not written into an output of this length, or nothing.
+#[tactic(auto, unfolding(frame::specs::Write::write_refusal))]
+fn write_refusal(f: &Fields, room: usize) -> Result<(), Refusal>
+    ensures { result ≡ write_refusal f.now room }
 {
-    if f.grand.0 >= grand::SECOND {
-        return refusals::OUT_OF_RANGE;
-    }
-    if f.grand.1 >= grand::SECOND {
-        return refusals::OUT_OF_RANGE;
-    }
-    if f.local.0 >= local::CIRCLE {
-        return refusals::OUT_OF_RANGE;
-    }
-    if f.tx.0 >= local::CIRCLE {
-        return refusals::OUT_OF_RANGE;
-    }
-    if f.rx.0 >= local::CIRCLE {
-        return refusals::OUT_OF_RANGE;
+    if f.grand.0 >= grand::SECOND
+        || f.grand.1 >= grand::SECOND
+        || f.local.0 >= local::CIRCLE
+        || f.tx.0 >= local::CIRCLE
+        || f.rx.0 >= local::CIRCLE
+    {
+        return Err(Refusal::OutOfRange);
     }
     if room < layout::FRAME_LENGTH {
-        return refusals::WRONG_LENGTH;
+        return Err(Refusal::WrongLength);
     }
-    if version::is_version(f.version as u64) {
-        return refusals::DONE;
+    if !version::is_version(u64::from(f.version)) {
+        return Err(Refusal::WrongVersion);
     }
-    refusals::WRONG_VERSION
+    Ok(())
 }
 
 // Fills the first 64 bytes of an output that has room for them with the frame.
+#[tactic(auto, unfolding(frame::specs::Write::bytes_of))]
 pub fn put(f: Fields, out: &mut [u8])
     requires { frame_length ≤ length out.old }
     ensures { out.new ≡ bytes_of f (drop frame_length out.old) }
 {
-    layout::fill(values(f), out);
+    layout::fill(values(&f), out);
 }
 
-// Fills the first 64 bytes of out with the frame and answers 0, or answers 2, 4 or 6 and out stays.
-pub fn write(f: Fields, out: &mut [u8]) -> u8
+// Fills the first 64 bytes of out with the frame, or refuses a time, the length or the version, and out stays.
+pub fn write(f: Fields, out: &mut [u8]) -> Result<(), Refusal>
     ensures { WritePromise f out.old result out.new }
 {
-    let no = write_refusal(f, out.len());
-    if no == refusals::DONE {
-        put(f, out);
-    }
-    no
+    write_refusal(&f, out.len())?;
+    put(f, out);
+    Ok(())
 }

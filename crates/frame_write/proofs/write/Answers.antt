@@ -1,22 +1,23 @@
 -- A refusal leaves the output; else the frame fills its first 64 bytes.
-use mathlib.Core.Path.{sym, ◌∙◌}
-use lib.ListN.{length}
+use Rattle.std.proofs.Common.{sym, ◌∙◌, length}
+use Rattle.std.proofs.lemmas.Result.{err_from_is_err_and}
 use Rattle.frame.proofs.FrameLaws.{in_range, filled, untouched}
 use Rattle.frame_write.proofs.write.Goals as goal
 
 pub put-requires : goal.put-requires
 put-requires c =
     let a = c.args in
-    (in_range a.f (length a.out.now) (sym c.write_refusal-no.ensures ∙ c.if-no-eq-DONE.true)).room
+    (in_range a.f (length a.out.now) (sym c.write_refusal.ensures ∙ c.in_ok-write_refusal.was)).room
 
-pub returns-then-no-eq-DONE : goal.returns-then-no-eq-DONE
-returns-then-no-eq-DONE c =
+pub returns-in_err-write_refusal : goal.returns-in_err-write_refusal
+returns-in_err-write_refusal c =
     let a = c.args in
-    let e = c.write_refusal-no.ensures in
-    record { answer = e; bytes = c.put.ensures ∙ filled a.f _ a.out.now e c.if-no-eq-DONE.true }
+    let p = err_from_is_err_and c.from_residual.result c.from_residual.ensures.1 in
+    let e = sym c.in_err-write_refusal.was ∙ c.write_refusal.ensures in
+    rw (p.1, p.2) record { answer = e; bytes = untouched a.f _ a.out.now e }
 
-pub returns-else-no-eq-DONE : goal.returns-else-no-eq-DONE
-returns-else-no-eq-DONE c =
+pub returns : goal.returns
+returns c =
     let a = c.args in
-    let n = c.write_refusal-no in
-    record { answer = n.ensures; bytes = untouched a.f n.result a.out.now n.ensures c.if-no-eq-DONE.false }
+    let e = sym c.in_ok-write_refusal.was ∙ c.write_refusal.ensures in
+    record { answer = e; bytes = c.put.ensures ∙ filled a.f a.out.now e }
