@@ -12,15 +12,15 @@ use lib.Signed.{mag, lt_z_yes}
 use borrow.Author.Tests.{eqb-true, eqb-false, ltb-true, ltb-false}
 use Rattle.refusals.specs.Answer.{answer_number}
 use Rattle.refusals.specs.declared.Refusal.{Refusal}
-use Rattle.refusals.specs.declared.Refusal.TheVariants.{DelayTooLong}
+use Rattle.refusals.specs.declared.Refusal.TheVariants as Refusals
 use Rattle.refusals.specs.Order.{Condition, First, nowhere, here, later, given}
 use Rattle.numbers.specs.Whole.{at_least_zero}
 use Rattle.times.specs.Times.{since_of, grand_of, moment_of, error_time_of}
 use Rattle.times.specs.declared.LocalTime.{LocalTime}
 use Rattle.times.specs.declared.GrandTime.{GrandTime}
+use Rattle.times.specs.declared.ErrorTime.{ErrorTime}
 use Rattle.samples.specs.Rate.{neighbour_rate_of}
 use Rattle.samples.specs.Keep.{rate_between, how_many, ends_of, LawfulSamples}
-use Rattle.samples.specs.declared.Sample.{Sample}
 use Rattle.samples.specs.declared.Samples.{Samples}
 use Rattle.samples.specs.declared.Ends.{Ends}
 use Rattle.delay.specs.Delay.{longest_trip, longest_delay, delay_of, measured_of, link_delay_of}
@@ -73,7 +73,7 @@ delay_order Measured rate local p tx rx = by (eqb tx.0 0 && eqb rx.0 0) (leb tri
     long = either_fails (either_fails (most_fails trip longest_trip) (most_fails turn longest_trip)) (most_fails delay longest_delay)
 
     by : (z s : Bool) → (eqb tx.0 0 && eqb rx.0 0) ≡ z → (leb trip longest_trip && leb turn longest_trip && leb delay longest_delay) ≡ s
-        → First (answer_number (cond z (Ok 0) (cond s (Ok delay) (Err DelayTooLong)))) (given 9 (MeasuredTooLong Measured rate local p tx rx) ∷ [])
+        → First (answer_number (cond z (Ok 0) (cond s (Ok delay) (Err Refusals.DelayTooLong)))) (given 9 (MeasuredTooLong Measured rate local p tx rx) ∷ [])
     by true s d e = later _ _ (λ (h : MeasuredTooLong Measured rate local p tx rx). h.0 (unheard.is d)) (nowhere refl)
     by false true d e = later _ _ (λ (h : MeasuredTooLong Measured rate local p tx rx). long.not e h.1) (nowhere refl)
     by false false d e = let h : MeasuredTooLong Measured rate local p tx rx = (unheard.not d, long.is e) in here _ _ h refl
@@ -186,7 +186,7 @@ clock_order : (choice : Option Candidate) (samples : Samples) (sender : Sender) 
     → First (answer_number (clock_sending choice samples sender version t port)) (departure_conditions Full choice samples version t sender.back)
 clock_order None samples sender version t port w l = here _ _ refl refl
 clock_order (Some clock) samples sender version t port w l =
-    later _ _ (λ (e : Some clock ≡ None). let z : ◌≡◌ {A = ℕ} 0 1 = cc in omega arith)
+    later _ _ (λ (e : Some clock ≡ None). absurd cc)
     (same_number (sending_number (sent_of samples t sender.back (stretch_of version sender.back)) sender version clock.precedence clock.hop t port) (sent_order samples version t sender.back w l))
 
 -- from a listener none of them

@@ -5,7 +5,7 @@ use mathlib.Core.Bool.{true, false}
 use mathlib.Core.List.{List}
 use Prim.Native.Nat.{ℕ, ◌^◌, ◌<◌, ◌≤◌}
 use native.Mathlib.Omega.{arith}
-use borrow.Author.Tests.{eq-eqb, ne_eqb, eqb-false}
+use borrow.Author.Tests.{eq-eqb, eqb-false}
 use lib.Dec.{eqb, lit<}
 use lib.ListN.{length, get_or}
 use Rattle.refusals.specs.Refusals.{number_of}
@@ -266,7 +266,7 @@ module _ (choice : Option Candidate) (samples : Samples) (sender : Sender) (vers
         → (sender.profile ≡ Listener → P (listener_frame_of sender version t port)) → P f
     sending_framed P send listen =
         sending_is choice samples sender version t port (λ (s : Result Fields Refusal). s ≡ Ok f → P f)
-        (λ refusal _ _ _ e. let z : ◌≡◌ {A = ℕ} 0 1 = cc in absurd (omega arith))
+        (λ refusal _ _ _ e. absurd cc)
         (λ clock times u c q e. let same : frame_of sender version clock.precedence clock.hop t times.grand times.error port ≡ f = cc in subst P same (send clock times u c q))
         (λ l e. let same : listener_frame_of sender version t port ≡ f = cc in subst P same (listen l))
         framed
@@ -276,7 +276,7 @@ module _ (choice : Option Candidate) (samples : Samples) (sender : Sender) (vers
     sending_for full =
         sending_framed (SentFor choice samples sender version t port)
         (λ clock times _ c q. record { clock = clock; times = times; chosen = c; sent = q; same = refl })
-        (λ l. let both = sym full ∙ l in let z : ◌≡◌ {A = ℕ} 0 1 = cc in absurd (omega arith))
+        (λ l. let both = sym full ∙ l in absurd cc)
 
     -- its grand time and errorTime are read off the samples
     pub sending_read_off : sender.profile ≡ Full → ReadOff samples t sender.back (stretch_of version sender.back) f
@@ -288,7 +288,7 @@ module _ (choice : Option Candidate) (samples : Samples) (sender : Sender) (vers
     pub sending_listens : sender.profile ≡ Listener → f ≡ listener_frame_of sender version t port
     sending_listens l =
         sending_framed (λ (g : Fields). g ≡ listener_frame_of sender version t port)
-        (λ _ _ full _ _. let both = sym full ∙ l in let z : ◌≡◌ {A = ℕ} 0 1 = cc in absurd (omega arith))
+        (λ _ _ full _ _. let both = sym full ∙ l in absurd cc)
         (λ _. refl)
 
     -- of either, its version is the one that was asked for, its frameCount is the port's next, Write takes it, and each field has its bits
