@@ -1,15 +1,15 @@
 -- Laws of scales: the second that a whole number is, the answers, and the way back.
 use mathlib.Core.Path.{◌≡◌, refl, sym, ap, ◌∙◌, subst}
+use mathlib.Core.Bool.{true}
 use mathlib.Core.Logic.{inl, inr}
-use Prim.Native.Nat.{ℕ, ◌^◌, ◌<◌, ◌≤◌}
+use Prim.Native.Nat.{ℕ, ◌<◌, ◌≤◌}
 use native.Mathlib.Omega.{arith}
 use borrow.Author.Tests.{lt-ltb, le-ltb, ltb-true, ltb-false}
 use lib.Dec.{ltb}
 use lib.IntN.{ℤ, pos, negsuc, nat_abs, ◌+ℤ◌, ◌-ℤ◌, pos-ne-negsuc, +ℤ_idr, -ℤ-+ℤ_cancel, +ℤ-neg_ℤ_cancel}
-use mir.Syntax.{w16, w64}
-use mir.Val.{SFits, to_z, of_z}
-use mir.ValLaws.{to_z-of_z}
+use lib.Signed.{lt_z}
 use Rattle.std.proofs.Common.{Result, Ok, Err}
+use Rattle.std.specs.Result.{MatchResult, IsOkAnd}
 use Rattle.refusals.specs.declared.Refusal.{Refusal}
 use Rattle.refusals.specs.declared.Refusal.TheVariants.{OutOfRange, BeyondRange}
 use Rattle.ptp.specs.Scale.{seconds_end, second_of, scaled_of, on_scale, gps_offset, as_gps, gps_of, as_utc, utc_of, ntp_offset, as_ntp, ntp_of}
@@ -18,8 +18,8 @@ use Rattle.ptp.specs.declared.PtpSecond.{PtpSecond}
 use Rattle.ptp.specs.declared.GpsSecond.{GpsSecond}
 use Rattle.ptp.specs.declared.UtcSecond.{UtcSecond}
 use Rattle.ptp.specs.declared.NtpSecond.{NtpSecond}
+use Rattle.numbers.proofs.Machine.{is_neg}
 use Rattle.numbers.proofs.Branches.{if_true, if_false, if_when}
-use Rattle.numbers.proofs.Machine.{sfits, got}
 
 -- ---- the second of a scale, case by case
 
@@ -32,44 +32,44 @@ module _ (ptp : ℕ) where
   unfolding scaled_of
   scaled_in z h = if_true _ _ _ (lt-ltb _ _ h)
 
-  pub scaled_under : (z : ℤ) (n : ℕ) → ptp < seconds_end → z ≡ negsuc n → Err BeyondRange ≡ scaled_of ptp z
-  scaled_under z n h e = ap second_of (sym e) ∙ scaled_in z h
+  pub scaled_under : (z : ℤ) → ptp < seconds_end → lt_z z (pos 0) ≡ true → Err BeyondRange ≡ scaled_of ptp z
+  scaled_under z h e = ap second_of (sym (is_neg z e)) ∙ scaled_in z h
 
-  pub scaled_beyond : (z : ℤ) (n : ℕ) → ptp < seconds_end → z ≡ pos n → seconds_end ≤ n → Err BeyondRange ≡ scaled_of ptp z
-  scaled_beyond z n h e k = if_false _ _ _ (le-ltb _ _ k) ∙ ap second_of (sym e) ∙ scaled_in z h
+  pub scaled_beyond : (z : ℤ) → ptp < seconds_end → seconds_end ≤ nat_abs z → Err BeyondRange ≡ scaled_of ptp z
+  scaled_beyond (pos n) h k = if_false _ _ _ (le-ltb _ _ k) ∙ scaled_in (pos n) h
+  scaled_beyond (negsuc n) h k = scaled_in (negsuc n) h
 
   pub scaled_at : (z : ℤ) (n : ℕ) → ptp < seconds_end → z ≡ pos n → n < seconds_end → Ok n ≡ scaled_of ptp z
   scaled_at z n h e k = if_true _ _ _ (lt-ltb _ _ k) ∙ ap second_of (sym e) ∙ scaled_in z h
 
 -- ---- each scale as PTP + offset - leap seconds
 
-module _ (s : PtpSecond) {r : Result ℕ Refusal} where
-  pub gps_by : r ≡ scaled_of s.0 (pos s.0 -ℤ pos gps_offset -ℤ pos 0) → on_scale as_gps r ≡ gps_of s
+-- what `map` hands back: a second that has the number which was found, or the same refusal
+abbrev pub Mapped : {S : Type 0} → (S → ℕ) → Result ℕ Refusal → Result S Refusal → Type 0
+Mapped count scaled r = MatchResult scaled (λ n. IsOkAnd r (λ s. count s ≡ n)) (λ refusal. r ≡ Err refusal)
+
+-- that is the answer on the scale
+mapped : {S : Type 0} (count : S → ℕ) (as_second : ℕ → S) → ((s : S) → s ≡ as_second (count s)) → (scaled : Result ℕ Refusal) (r : Result S Refusal) → Mapped count scaled r
+    → r ≡ on_scale as_second scaled
+mapped count as_second made (Ok n) (Ok s) h = ap Ok (made s ∙ ap as_second h)
+mapped count as_second made (Ok n) (Err refusal) h = absurd h
+mapped count as_second made (Err refusal) r h = h
+
+module _ (s : PtpSecond) {scaled : Result ℕ Refusal} where
+  pub gps_by : {r : Result GpsSecond Refusal} → scaled ≡ scaled_of s.0 (pos s.0 -ℤ pos gps_offset -ℤ pos 0) → Mapped gps_count scaled r → r ≡ gps_of s
   unfolding gps_of
-  gps_by e = ap (on_scale as_gps) (e ∙ ap (scaled_of s.0) (+ℤ_idr (pos s.0 -ℤ pos gps_offset)))
+  gps_by {r} e h =
+      mapped gps_count as_gps (λ g. refl) scaled r h ∙ ap (on_scale as_gps) (e ∙ ap (scaled_of s.0) (+ℤ_idr (pos s.0 -ℤ pos gps_offset)))
 
-  pub utc_by : {leap read : ℤ} → read ≡ leap → r ≡ scaled_of s.0 (pos s.0 +ℤ pos 0 -ℤ read) → on_scale as_utc r ≡ utc_of s leap
+  pub utc_by : {r : Result UtcSecond Refusal} {leap read : ℤ} → read ≡ leap → scaled ≡ scaled_of s.0 (pos s.0 +ℤ pos 0 -ℤ read) → Mapped utc_count scaled r → r ≡ utc_of s leap
   unfolding utc_of
-  utc_by q e = ap (on_scale as_utc) (e ∙ (λ i. scaled_of s.0 (+ℤ_idr (pos s.0) i -ℤ q i)))
+  utc_by {r} q e h =
+      mapped utc_count as_utc (λ u. refl) scaled r h ∙ ap (on_scale as_utc) (e ∙ (λ i. scaled_of s.0 (+ℤ_idr (pos s.0) i -ℤ q i)))
 
-  pub ntp_by : {leap read : ℤ} → read ≡ leap → r ≡ scaled_of s.0 (pos s.0 +ℤ pos ntp_offset -ℤ read) → on_scale as_ntp r ≡ ntp_of s leap
+  pub ntp_by : {r : Result NtpSecond Refusal} {leap read : ℤ} → read ≡ leap → scaled ≡ scaled_of s.0 (pos s.0 +ℤ pos ntp_offset -ℤ read) → Mapped ntp_count scaled r → r ≡ ntp_of s leap
   unfolding ntp_of
-  ntp_by q e = ap (on_scale as_ntp) (e ∙ (λ i. scaled_of s.0 (pos s.0 +ℤ pos ntp_offset -ℤ q i)))
-
--- ---- leap seconds: a number of 16 bits, widened to 64 with its sign
-
-pub leap_size : (z : ℤ) → SFits w16 z → nat_abs z ≤ 2 ^ 15
-leap_size (pos n) f = omega (arith, f.sfits)
-leap_size (negsuc n) f = omega (arith, f.sfits)
-
-pub leap_same : (z : ℤ) → SFits w16 z → to_z w16 (of_z w16 z) ≡ z
-leap_same z f = to_z-of_z w16 z f
-
-pub leap_fits : (z : ℤ) → SFits w16 z → SFits w64 (to_z w16 (of_z w16 z))
-leap_fits z f = rw (leap_same z f) (sfits (omega (arith, f.sfits)))
-
-pub leap_is : (z : ℤ) → SFits w16 z → to_z w64 (of_z w64 (to_z w16 (of_z w16 z))) ≡ z
-leap_is z f = got (leap_fits z f).sfits (leap_same z f)
+  ntp_by {r} q e h =
+      mapped ntp_count as_ntp (λ n. refl) scaled r h ∙ ap (on_scale as_ntp) (e ∙ (λ i. scaled_of s.0 (pos s.0 +ℤ pos ntp_offset -ℤ q i)))
 
 -- ---- the answers, in their order
 

@@ -1,10 +1,9 @@
--- The second or the refusal, of this scale.
+-- The answer on this scale.
+use mir.Syntax.{w16}
+use mir.ValLaws.{to_z-of_z}
 use Rattle.ptp.proofs.PromiseLaws.{utc_out}
-use Rattle.ptp.proofs.ScaleLaws.{leap_same, utc_by}
+use Rattle.ptp.proofs.ScaleLaws.{utc_by}
 use Rattle.ptp_scales.proofs.utc.Goals as goal
 
-pub returns-in-Second : goal.returns-in-Second
-returns-in-Second c = utc_out _ _ (utc_by _ (leap_same _ c.ranges.leap) c.in-Second.ensures)
-
-pub returns-in-Refused : goal.returns-in-Refused
-returns-in-Refused c = utc_out _ _ (utc_by _ (leap_same _ c.ranges.leap) c.in-Refused.ensures)
+pub returns : goal.returns
+returns c = utc_out _ _ (utc_by _ (to_z-of_z w16 _ c.ranges.leap) c.on_scale.ensures c.map.ensures.cases)
