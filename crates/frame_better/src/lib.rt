@@ -5,48 +5,46 @@ ghost use Rattle.std.specs.Prelude.{◌≡◌};
 ghost use Rattle.frame.specs.Better.{standing_of, winner_of};
 ghost use Rattle.frame.specs.Promises.{BetterPromise};
 
-use frame::{Reading, Standing, Winner};
+use frame::{Standing, Winner};
 
 // Where the 13 precedence bytes of a frame start and end.
 const PRECEDENCE_START: usize = 16;
 
 const PRECEDENCE_END: usize = 29;
 
-// How a frame stands: what meets 4, 5, 6 or 7 loses.
-fn standing(frame: &[u8]) -> Standing
+// How a frame stands: what is refused, or has the last hop, loses.
+#[tactic(auto, unfolding(frame::specs::Better::standing_of))]
+fn standing(frame: &[u8]) -> Option<Standing>
     ensures { result ≡ standing_of frame.now }
 {
-    match frame_read::read(frame) {
-        Reading::Refused(_) => Standing::Loses,
-        Reading::Frame(f) => {
-            if f.hop == choice_hop::LAST_HOP {
-                return Standing::Loses;
-            }
-            let precedence = f.precedence;
-            Standing::Stands(precedence, f.hop)
-        }
+    let Ok(f) = frame_read::read(frame) else {
+        return None;
+    };
+    if f.hop == choice_hop::LAST_HOP {
+        return None;
     }
+    Some(Standing {
+        precedence: f.precedence,
+        hop: f.hop,
+    })
 }
 
 // The better of two standings, the first on a tie.
-fn winner(first: Standing, second: Standing) -> Winner
+#[tactic(auto, unfolding(frame::specs::Better::winner_of))]
+fn winner(first: Option<Standing>, second: Option<Standing>) -> Winner
     ensures { result ≡ winner_of first second }
 {
-    match first {
-        Standing::Loses => match second {
-            Standing::Loses => Winner::Neither,
-            Standing::Stands(_, _) => Winner::Second,
-        },
-        Standing::Stands(p, h) => match second {
-            Standing::Loses => Winner::First,
-            Standing::Stands(q, k) => {
-                if choice_order::key_precedes(q, k, p, h) {
-                    Winner::Second
-                } else {
-                    Winner::First
-                }
+    match (first, second) {
+        (None, None) => Winner::Neither,
+        (None, Some(_)) => Winner::Second,
+        (Some(_), None) => Winner::First,
+        (Some(x), Some(y)) => {
+            if choice_order::key_precedes(y.precedence, y.hop, x.precedence, x.hop) {
+                Winner::Second
+            } else {
+                Winner::First
             }
-        },
+        }
     }
 }
 
