@@ -5,8 +5,7 @@ use mathlib.Core.Logic.{⊎_elim}
 use Prim.Native.Nat.{ℕ, ◌-◌, ◌<◌, ◌≤◌}
 use native.Mathlib.Omega.{arith}
 use borrow.Author.Tests.{eqb-true}
-use Rattle.std.proofs.Common.{None, Err}
-use Rattle.refusals.specs.declared.Refusal.TheVariants.{WrongLength}
+use Rattle.std.proofs.Common.{None}
 use Rattle.frame.specs.Read.{read_refusal, read_of}
 use Rattle.bridge.specs.Table.{port_at, most_ports, loses_link}
 use Rattle.bridge.specs.Arguments.{mask_beyond}

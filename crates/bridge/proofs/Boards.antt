@@ -5,8 +5,8 @@ use Prim.Native.Nat.{ℕ, zero, suc, ◌+◌, ◌-◌, ◌<◌, ◌≤◌}
 use native.Mathlib.Omega.{arith}
 use lib.ListN.{length}
 use Rattle.std.specs.Prelude.{⊤}
-use Rattle.std.proofs.Common.{Option, Some, None, Result, Ok, Err}
-use Rattle.refusals.specs.Answer.{answer_number, granted}
+use Rattle.std.proofs.Common.{Option, None, Result, Ok}
+use Rattle.refusals.specs.Answer.{granted}
 use Rattle.refusals.specs.declared.Refusal.{Refusal}
 use Rattle.choice.specs.Choose.{candidate_of, better_of, best_of, chosen_hop}
 use Rattle.choice.specs.Permutation.{Permutation}

@@ -1,7 +1,6 @@
 -- A drift in parts per million is exactly the rate between the two ends of that clock's samples × 1,000,000 / 2^35.
 use mathlib.Core.Path.{◌≡◌, refl}
 use Prim.Native.Nat.{ℕ}
-use native.Mathlib.Omega.{arith}
 use lib.Dec.{ltb}
 use lib.Ieee.{Float}
 use Rattle.std.proofs.Common.{Option, Some, None}

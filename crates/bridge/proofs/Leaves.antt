@@ -1,15 +1,13 @@
 -- What a refusal leaves of the state, for each call that stores something of what it refuses.
-use mathlib.Core.Path.{◌≡◌, refl, sym, ap, subst}
+use mathlib.Core.Path.{◌≡◌, refl, sym, subst}
 use mathlib.Core.List.{List}
-use Prim.Native.Nat.{ℕ, zero, suc, ◌-◌, ◌<◌, ◌≤◌}
+use Prim.Native.Nat.{ℕ, ◌-◌, ◌<◌, ◌≤◌}
 use native.Mathlib.Omega.{arith}
-use lib.Dec.{eqb}
 use lib.ListN.{length}
 use lib.Seq.{get_or-set_same, get_or-set_other}
-use borrow.Author.Tests.{eqb-true}
 use Rattle.std.specs.Prelude.{⊤}
-use Rattle.std.proofs.Common.{Option, Some, None, Result, Ok, Err}
-use Rattle.refusals.specs.Answer.{answer_number, granted}
+use Rattle.std.proofs.Common.{Result, Ok, Err}
+use Rattle.refusals.specs.Answer.{answer_number}
 use Rattle.refusals.specs.declared.Refusal.{Refusal}
 use Rattle.numbers.specs.Table.{parted}
 use Rattle.times.specs.declared.LocalTime.{LocalTime}
@@ -75,7 +73,7 @@ receive_leaves b port frame arrival l =
     by (Ok _) m h q =
         let f = fields_of (rows_of frame) in
         let d = received_of (setting_at b i) (chosen_hop (chosen_of b)) f at (port_at b.ports i) in
-        let noted = received_noted (setting_at b i) (chosen_hop (chosen_of b)) f at (port_at b.ports i) (λ z. omega (arith, ap answer_number z, q)) in
+        let noted = received_noted (setting_at b i) (chosen_hop (chosen_of b)) f at (port_at b.ports i) (λ z. omega (arith, z, q)) in
         record {
           noted = subst (Noted f.count at (port_at b.ports i)) (sym (stored_there b i d.after h)) noted;
           beside = stored_beside b i d.after l noted.announcement;
@@ -91,7 +89,7 @@ unfolding own_clock_of
 own_clock_leaves b count seconds fraction at =
     granted_when (λ (d : Done ⊤). answer_number d.answer ≡ 8 → ReadingNoted b count at d.next) (own_clock_refusal b.setup.capable seconds fraction at)
     (λ _ e. record {
-      noted = own_reading_noted count (record { 0 = seconds; 1 = fraction }) (record { 0 = at }) b.clock (λ z. omega (arith, e, ap answer_number z));
+      noted = own_reading_noted count (record { 0 = seconds; 1 = fraction }) (record { 0 = at }) b.clock (λ z. omega (arith, e, z));
       beside = record { setup = refl; links = refl; ranking = refl; ports = refl };
     })
     (λ _ _ e. absurd (own_is (λ (x : Result ⊤ Refusal). answer_number x ≡ 8 → ⊥) b.setup.capable seconds fraction at (λ e. omega arith) (λ e. omega arith) (λ e. omega arith) e))

@@ -1,11 +1,11 @@
 -- The order of refusals of each call on the state: the number given is the lowest that applies; the own clock tests 2, 10, 8.
 use mathlib.Core.Path.{◌≡◌, refl, sym, ◌∙◌, subst}
-use mathlib.Core.Bool.{Bool, true, false, not, cond, true≢false}
+use mathlib.Core.Bool.{Bool, true, false, not, true≢false}
 use mathlib.Core.List.{List, [], ◌∷◌, ◌++◌}
 use mathlib.Core.Logic.{◌⊎◌, inl, inr, ⊎_elim}
 use Prim.Native.Nat.{ℕ, zero, suc, ◌+◌, ◌-◌, ◌/◌, ◌^◌, ◌<◌, ◌≤◌}
 use native.Mathlib.Omega.{arith}
-use lib.Dec.{ltb, eqb}
+use lib.Dec.{ltb}
 use lib.ListN.{get_or, take}
 use lib.Pow.{pow-lt, pow_mono, shl-shr, shr_lt, shr_mono}
 use borrow.Author.Tests.{eqb-true, eqb-false, leb-true, leb-false, ltb-true, ltb-false}
@@ -13,7 +13,7 @@ use Rattle.std.specs.Prelude.{⊤}
 use Rattle.std.proofs.Common.{Option, Some, None, Result, Ok, Err}
 use Rattle.refusals.specs.Answer.{answer_number, granted}
 use Rattle.refusals.specs.declared.Refusal.{Refusal}
-use Rattle.refusals.specs.declared.Refusal.TheVariants.{BadSetup}
+use Rattle.refusals.specs.declared.Refusal.TheVariants.{BadSetup, OutOfRange, NoLink, WrongLength, NoClock}
 use Rattle.refusals.specs.Order.{Condition, given, Lowest, First, nowhere}
 use Rattle.numbers.specs.Table.{parted}
 use Rattle.times.specs.declared.LocalTime.{LocalTime}
@@ -164,11 +164,11 @@ link_fails links port = record {
 }
 
 -- 2 and 3, and then the rest
-on_port_order : (n links port at : ℕ) {rest : Result ⊤ Refusal} {cs : List Condition} → First (answer_number rest) cs
+on_port_order : (n links port at : ℕ) (rest : Result ⊤ Refusal) {cs : List Condition} → First (answer_number rest) cs
     → First (answer_number (on_port_of n links port at rest)) (port_conditions n links port at ++ cs)
-on_port_order n links port at f =
-    first_require (most_fails 1 port)
-    (first_require (most_fails port n) (first_require (less_fails at (2 ^ 48)) (first_require (link_fails links port) f)))
+on_port_order n links port at rest f =
+    first_require OutOfRange _ (most_fails 1 port)
+    (first_require OutOfRange _ (most_fails port n) (first_require OutOfRange _ (less_fails at (2 ^ 48)) (first_require NoLink _ (link_fails links port) f)))
 
 -- a refusal before any record is looked at, or what the records answer
 refused_order : (b : Bridge) (answer : Result ⊤ Refusal) (d : Done ⊤) (cs ds : List Condition) → ascends 1 cs ≡ true → First (answer_number answer) cs
@@ -183,9 +183,9 @@ pub own_clock_order : (b : Bridge) (count seconds fraction at : ℕ) → First (
 unfolding own_clock_of own_clock_refusal
 own_clock_order b count seconds fraction at =
     refused_order b _ _ _ _ refl
-    (first_require (less_fails seconds (2 ^ 40))
-    (first_require (less_fails fraction (2 ^ 40))
-    (first_require (less_fails at (2 ^ 48)) (first_require (record { is = λ e. e; not = λ e h. true≢false (sym e ∙ h) }) (nowhere refl)))))
+    (first_require OutOfRange _ (less_fails seconds (2 ^ 40))
+    (first_require OutOfRange _ (less_fails fraction (2 ^ 40))
+    (first_require OutOfRange _ (less_fails at (2 ^ 48)) (first_require NoClock granted (record { is = λ e. e; not = λ e h. true≢false (sym e ∙ h) }) (nowhere refl)))))
     (reading_order count (record { 0 = seconds; 1 = fraction }) (record { 0 = at }) b.clock)
 
 -- ---- Receive
@@ -195,7 +195,7 @@ pub receive_lowest : (b : Bridge) (port : ℕ) (frame : List ℕ) (arrival : ℕ
 unfolding receive_of receive_fields_of read_of port_refusal parted
 receive_lowest b port frame arrival =
     first_lowest 1 refl
-    (refused_order b _ _ (port_conditions b.setup.n b.links port arrival) _ refl (on_port_order b.setup.n b.links port arrival (nowhere refl))
+    (refused_order b _ _ (port_conditions b.setup.n b.links port arrival) _ refl (on_port_order b.setup.n b.links port arrival granted (nowhere refl))
     (read (read_refusal frame) (read_order frame)))
   where
     i : ℕ
@@ -226,7 +226,7 @@ unfolding send_of sending_at send_refusal
 send_lowest b port t room l =
     first_lowest 1 (send_ascends b port t room)
     (refused_order b _ _ (port_conditions b.setup.n b.links port t ++ (given 4 (room < 64) ∷ [])) _ refl
-    (on_port_order b.setup.n b.links port t (first_require (most_fails 64 room) (nowhere refl)))
+    (on_port_order b.setup.n b.links port t _ (first_require WrongLength granted (most_fails 64 room) (nowhere refl)))
     (same_number (told_number (sending_at (chosen_of b) b (port - 1) (record { 0 = t })))
     (departure_order (chosen_of b) (chosen_samples b) b.setup.sender (version_at b (port - 1)) (record { 0 = t }) (port_at b.ports (port - 1))
     (chosen_lawful (chosen_of b) b.clock b.ports l.clock_lawful l.ports_lawful) l.setup_lawful.back_small)))

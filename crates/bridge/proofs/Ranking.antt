@@ -10,11 +10,9 @@ use borrow.Author.Tests.{ltb-true, ltb-false, le-leb, eq-eqb, ne_eqb}
 use lib.Dec.{ltb, leb, eqb}
 use lib.ListN.{length, get_or-eq_default}
 use Rattle.std.specs.Prelude.{⊤}
-use Rattle.std.proofs.Common.{Option, Some, None, Result, Ok, Err}
+use Rattle.std.proofs.Common.{Option, Some, None}
 use Rattle.refusals.specs.Answer.{answer_number, granted}
-use Rattle.refusals.specs.declared.Refusal.{Refusal}
 use Rattle.times.specs.Times.{circle, since_of}
-use Rattle.times.specs.declared.LocalTime.{LocalTime}
 use Rattle.choice.specs.Choose.{candidate_of, best_of, number_of, shown_port}
 use Rattle.choice.specs.Least.{rank_in}
 use Rattle.choice.specs.Permutation.{Permutation}

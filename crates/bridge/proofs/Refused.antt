@@ -1,20 +1,19 @@
 -- Demand 1: each call answers with a number that document 01 lists for it, and a refusal changes what the document names and nothing else.
 use mathlib.Core.Path.{◌≡◌, refl, subst}
 use mathlib.Core.List.{List}
-use mathlib.Core.Logic.{◌⊎◌, inl, inr, ⊎_elim}
-use Prim.Native.Nat.{ℕ, zero, suc, ◌-◌}
+use mathlib.Core.Logic.{inl, inr, ⊎_elim}
+use Prim.Native.Nat.{ℕ, ◌-◌}
 use native.Mathlib.Omega.{arith}
-use lib.Dec.{eqb, leb, ltb}
+use lib.Dec.{leb, ltb}
 use lib.ListN.{length}
 use Rattle.std.specs.Prelude.{⊤}
 use Rattle.std.proofs.Common.{Option, Some, None, Result, Ok, Err}
-use Rattle.refusals.specs.Answer.{answer_number, granted}
 use Rattle.refusals.specs.declared.Refusal.{Refusal}
 use Rattle.times.specs.Times.{circle}
 use Rattle.samples.specs.Keep.{ends_of}
 use Rattle.samples.specs.declared.Ends.{Ends}
 use Rattle.timeline.specs.Drift.{drift_through_of, drift_of}
-use Rattle.frame.specs.Read.{rows_of, read_refusal, read_as, read_of}
+use Rattle.frame.specs.Read.{rows_of, read_as, read_of}
 use Rattle.frame.specs.Write.{write_refusal, written_as, written_of}
 use Rattle.frame.specs.declared.Fields.{Fields}
 use Rattle.port.specs.Send.{sending_done, sending_bytes}
@@ -34,9 +33,8 @@ use Rattle.bridge.specs.Age.{age_of}
 use Rattle.bridge.specs.Chosen.{chosen_of}
 use Rattle.bridge.specs.Send.{chosen_samples, sending_at, send_of, send_bytes}
 use Rattle.bridge.specs.Drift.{drift_at}
-use Rattle.bridge.specs.Demands.{From, ReadAnswers, WriteAnswers, SetupAnswers, LinksAnswers, AgeAnswers, OwnAnswers, ReceiveAnswers, SendAnswers, DriftAnswers}
+use Rattle.bridge.specs.Demands.{ReadAnswers, WriteAnswers, SetupAnswers, LinksAnswers, AgeAnswers, OwnAnswers, ReceiveAnswers, SendAnswers, DriftAnswers}
 use Rattle.bridge.specs.declared.Bridge.{Bridge}
-use Rattle.bridge.specs.declared.Done.{Done}
 use Rattle.numbers.proofs.Branches.{if_when}
 use Rattle.frame.proofs.FrameLaws.{read_is, write_is}
 use Rattle.port.proofs.PortLaws.{received_is, own_reading_is, sending_is}

@@ -6,11 +6,9 @@ use mathlib.Core.List.{List}
 use mathlib.Core.Logic.{◌⊎◌, inl, inr}
 use Prim.Native.Nat.{ℕ, ◌-◌, ◌<◌, ◌≤◌}
 use native.Mathlib.Omega.{arith}
-use borrow.Author.Tests.{eqb-true, eqb-false}
-use lib.Dec.{eqb}
 use lib.ListN.{length, take, drop}
 use Rattle.std.specs.Prelude.{⊤}
-use Rattle.std.proofs.Common.{Option, Some, None, Result, Ok, Err}
+use Rattle.std.proofs.Common.{Some, Result, Ok, Err}
 use Rattle.refusals.specs.Answer.{answer_number, granted, told}
 use Rattle.refusals.specs.declared.Refusal.{Refusal}
 use Rattle.numbers.specs.Bytes.{number_at}
@@ -36,7 +34,7 @@ use Rattle.bridge.specs.declared.Bridge.{Bridge}
 use Rattle.bridge.specs.declared.Done.{Done}
 use Rattle.frame.proofs.FrameLaws.{version_small, filled}
 use Rattle.frame.proofs.Trip.{written_read, version_byte, hop_byte, count_byte}
-use Rattle.port.proofs.PortLaws.{SentFor, sending_frame, sending_for, sending_listens, sending_version, sending_count, sending_written, sending_typed, received_is}
+use Rattle.port.proofs.PortLaws.{SentFor, sending_for, sending_listens, sending_version, sending_count, sending_written, sending_typed, received_is}
 use Rattle.bridge.proofs.CheckLaws.{granted_both, Ready, send_ready}
 use Rattle.bridge.proofs.TableLaws.{all_each}
 use Rattle.bridge.proofs.StateLaws.{receive_read}
