@@ -13,12 +13,7 @@ use times::{ErrorTime, GrandTime, LocalTime, local};
 
 // A reading: the grand time belongs to the time of the preceding one, on whose frameCount it has to follow.
 #[tactic(auto, unfolding(port::specs::Own::own_reading_of))]
-pub fn own_clock(
-    clock: OwnClock,
-    count: u8,
-    grand: GrandTime,
-    at: LocalTime,
-) -> Outcome<OwnClock>
+pub fn own_clock(clock: OwnClock, count: u8, grand: GrandTime, at: LocalTime) -> Outcome<OwnClock>
     requires lawful_samples { LawfulSamples clock.samples }
     requires in_range { InRange grand }
     ensures { result ≡ own_reading_of count grand at clock }

@@ -79,7 +79,7 @@ fn taken(
     Ok(stored(port, f, hop, p, delay, at))
 }
 
-// A frame that was read, on a port with this setting, where the chosen clock's held hop is `chosen`. Of a refused one the frameCount and the arrival are stored, as
+// A frame that was read, on a port with this setting, where the chosen clock's held hop is `chosen`; of a refused one the frameCount and the arrival are stored, as
 // the next p and not as heard-at.
 #[tactic(auto, unfolding(port::specs::Receive::received_of))]
 pub fn receive(port: Port, setting: Setting, chosen: u8, f: Fields, at: LocalTime) -> Outcome<Port>

@@ -110,7 +110,15 @@ fn for_neighbour(sender: Sender, version: u8, t: LocalTime, port: Port) -> Field
         grand: GrandTime(0, 0),
         error: ErrorTime(0),
     };
-    fields(sender, version, worst_precedence(), LISTENER_HOP, t, times, port)
+    fields(
+        sender,
+        version,
+        worst_precedence(),
+        LISTENER_HOP,
+        t,
+        times,
+        port,
+    )
 }
 
 // The frame that the port sends at t by the station's profile, or 10 to 13.
