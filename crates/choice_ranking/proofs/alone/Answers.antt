@@ -1,6 +1,8 @@
 -- The own clock's rank at the first place.
+use Rattle.choice.specs.Rank.{in_numbers}
 use Rattle.choice.proofs.PlacesLaws.{alone_placed}
 use Rattle.choice_ranking.proofs.alone.Goals as goal
 
 pub returns : goal.returns
-returns c = alone_placed c.own-rank.ensures
+unfolding in_numbers
+returns c = alone_placed c.own.ensures

@@ -1,22 +1,25 @@
 -- By whether there is such a place; then by the rank at it.
-use Rattle.std.proofs.Common.{◌∙◌, arith}
-use borrow.Author.Tests.{lt-ltb, le-ltb}
+use Rattle.std.proofs.Common.{◌<◌, ◌∙◌, sym, ap, subst, arith, lt-ltb, le-ltb}
+use Rattle.choice.specs.Rank.{Ranks, candidate_at}
+use Rattle.choice.specs.Ranking.{ranked_at}
 use Rattle.choice.specs.Places.{places, candidate_in}
+use Rattle.choice.specs.declared.Rank.{Rank}
 use Rattle.numbers.proofs.Branches.{if_true, if_false}
 use Rattle.choice.proofs.PlacesLaws.{kept_rank}
+use Rattle.choice_ranking.proofs.PlaceLoops.{read_rank}
 use Rattle.choice_ranking.proofs.candidate_at.Goals as goal
 
 pub candidate-requires : goal.candidate-requires
 candidate-requires c =
-    let t = c.before.before in
-    let (l, k) = t.before.requires in
-    (_, kept_rank k t.before.args.place (omega (arith, t.if-place-lt-PLACES.true)))
+    let (l, k) = c.requires in
+    let within : c.args.place < places = omega (arith, c.if-place-lt-PLACES.true) in
+    (ranked_at l c.args.place, subst (λ (r : Rank). Ranks r (ranked_at l c.args.place)) (sym (read_rank c.args.ranking.now c.args.place _ (omega (arith, c.told-ranking, within)))) (kept_rank k c.args.place within))
 
 pub returns-then-place-lt-PLACES : goal.returns-then-place-lt-PLACES
 unfolding candidate_in
 returns-then-place-lt-PLACES c =
-    let t = c.before.before.before in
-    c.candidate.ensures ∙ if_true _ _ _ (lt-ltb t.before.args.place places (omega (arith, t.if-place-lt-PLACES.true)))
+    let within : c.args.place < places = omega (arith, c.if-place-lt-PLACES.true) in
+    c.candidate.ensures ∙ ap candidate_at (read_rank c.args.ranking.now c.args.place _ (omega (arith, c.told-ranking, within))) ∙ if_true _ _ _ (lt-ltb c.args.place places within)
 
 pub returns : goal.returns
 unfolding candidate_in

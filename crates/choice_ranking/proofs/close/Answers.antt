@@ -1,19 +1,12 @@
--- The numbers from the place on are those that stood two on; then those of the last place.
-use Rattle.std.proofs.Common.{refl}
-use Rattle.choice.proofs.PlaceLoops.{closing_start, closing_more, closing_last}
+-- Those behind the place are copied one place up; then the last place.
+use Rattle.std.proofs.Common.{ap, ◌∙◌, List, set, None}
+use Rattle.choice.specs.Rank.{in_numbers}
+use Rattle.choice.specs.declared.Rank.{Rank}
+use Rattle.choice_ranking.proofs.PlaceLoops.{last_place, closing}
 use Rattle.choice_ranking.proofs.close.Goals as goal
 
-pub loop-i-init : goal.loop-i-init
-loop-i-init c = (c.requires.whole, c.requires.place_lt_places, closing_start _ _ c.requires.whole c.requires.place_lt_places)
-
-pub loop-i-preserved : goal.loop-i-preserved
-loop-i-preserved c =
-    let l = c.loop-i in
-    let (whole, h, so_far) = l.invariant in
-    (whole, h, closing_more _ _ whole h l.i l.ranking _ so_far c.loop-i-test.true refl)
-
 pub returns : goal.returns
+unfolding in_numbers
 returns c =
-    let l = c.loop-i in
-    let (whole, h, so_far) = l.invariant in
-    closing_last _ _ whole h l.i l.ranking so_far c.loop-i-test.false
+    ap (λ (s : List Rank). set s last_place (in_numbers None)) c.copy_within.ensures.after
+    ∙ closing c.args.place c.args.ranking.now c.requires.whole c.requires.place_lt_places

@@ -1,10 +1,5 @@
-use Rattle.std.proofs.Common.{◌-◌}
-use Rattle.choice.specs.Places.{places, Whole}
-use Rattle.choice.proofs.PlaceLoops.{Inserting}
+use Rattle.choice_ranking.proofs.PlaceLoops.{Inserting}
 use Rattle.choice_ranking.proofs.insert.Given as goal
 
-abbrev pub invariant-loop-place : goal.invariant-loop-place
-invariant-loop-place l = (whole : Whole l.initial.ranking) × Inserting l.initial.moved l.initial.ranking whole l.place l.moved l.ranking
-
-abbrev pub decreases-loop-place : goal.decreases-loop-place
-decreases-loop-place l = places - l.place
+abbrev pub invariant-loop-held : goal.invariant-loop-held
+invariant-loop-held l = Inserting l.initial.moved l.initial.ranking l.held-index l.moved l.ranking
