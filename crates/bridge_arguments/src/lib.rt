@@ -7,10 +7,11 @@ ghost use Rattle.frame.specs.Frame.{is_version};
 ghost use Rattle.bridge.specs.Arguments.{has_link, port_refusal, send_refusal, own_clock_refusal, mask_beyond};
 ghost use Rattle.bridge.specs.Fits.{delay_fits, setting_fits, delays_fit_of, versions_fit_of, ranges_fit, profile_fits};
 
-use bridge::Setup;
+use bridge::{PORTS, Setup};
 use delay::DelaySetting;
 use frame::{layout, version};
 use port::{Profile, Setting};
+use refusals::Refusal;
 use times::{grand, local};
 
 // What Setup takes: from the fewest ports to the most, a timeout from the least to the greatest, a backTime below the end.
@@ -44,58 +45,46 @@ fn has_link(links: u8, port: u8) -> bool
     (links >> (port - 1)) % 2 == 1
 }
 
-// Why a call on a port at a local time is refused, or 0.
-pub fn port_refusal(n: u8, links: u8, port: u8, at: u64) -> u8
+// Refuses a call on a port that there is not or that has no link, or at a local time out of range.
+#[tactic(auto, unfolding(bridge::specs::Arguments::port_refusal))]
+pub fn port_refusal(n: u8, links: u8, port: u8, at: u64) -> Result<(), Refusal>
     requires { n ≤ 8 }
     ensures { result ≡ port_refusal n links port at }
 {
-    if port == 0 {
-        return refusals::OUT_OF_RANGE;
+    if port == 0 || n < port || off_circle(at) {
+        return Err(Refusal::OutOfRange);
     }
-    if n < port {
-        return refusals::OUT_OF_RANGE;
+    if !has_link(links, port) {
+        return Err(Refusal::NoLink);
     }
-    if local::CIRCLE <= at {
-        return refusals::OUT_OF_RANGE;
-    }
-    if has_link(links, port) {
-        return refusals::DONE;
-    }
-    refusals::NO_LINK
+    Ok(())
 }
 
-// Why a send is refused before the choice is looked at, or 0.
-pub fn send_refusal(n: u8, links: u8, port: u8, t: u64, room: usize) -> u8
+// Refuses a send as any call on the port, and into an output that is too short.
+#[tactic(auto, unfolding(bridge::specs::Arguments::port_refusal, bridge::specs::Arguments::send_refusal))]
+pub fn send_refusal(n: u8, links: u8, port: u8, t: u64, room: usize) -> Result<(), Refusal>
     requires { n ≤ 8 }
     ensures { result ≡ send_refusal n links port t room }
 {
-    let refusal = port_refusal(n, links, port, t);
-    if refusal != refusals::DONE {
-        return refusal;
-    }
+    port_refusal(n, links, port, t)?;
     if room < layout::FRAME_LENGTH {
-        return refusals::WRONG_LENGTH;
+        return Err(Refusal::WrongLength);
     }
-    refusals::DONE
+    Ok(())
 }
 
-// Why a reading of the own clock is refused before its record is looked at, or 0.
-pub fn own_clock_refusal(capable: bool, seconds: u64, fraction: u64, at: u64) -> u8
+// Refuses a reading of the own clock with a time out of range, or on a station that is not capable.
+#[tactic(auto, unfolding(bridge::specs::Arguments::own_clock_refusal))]
+pub fn own_clock_refusal(capable: bool, seconds: u64, fraction: u64, at: u64) -> Result<(), Refusal>
     ensures { result ≡ own_clock_refusal capable seconds fraction at }
 {
-    if grand::SECOND <= seconds {
-        return refusals::OUT_OF_RANGE;
+    if grand::SECOND <= seconds || grand::SECOND <= fraction || off_circle(at) {
+        return Err(Refusal::OutOfRange);
     }
-    if grand::SECOND <= fraction {
-        return refusals::OUT_OF_RANGE;
+    if !capable {
+        return Err(Refusal::NoClock);
     }
-    if local::CIRCLE <= at {
-        return refusals::OUT_OF_RANGE;
-    }
-    if capable {
-        return refusals::DONE;
-    }
-    refusals::NO_CLOCK
+    Ok(())
 }
 
 // Whether a mask has a bit beyond n ports.
@@ -103,10 +92,11 @@ pub fn beyond(n: u8, mask: u8) -> bool
     requires { n ≤ 8 }
     ensures { result ≡ mask_beyond n mask }
 {
-    (1u32 << n) <= mask as u32
+    (1u32 << n) <= u32::from(mask)
 }
 
 // Whether a port's delay setting is one that Setup takes.
+#[tactic(auto, unfolding(bridge::specs::Fits::delay_fits))]
 fn delay_fits(setting: DelaySetting) -> bool
     ensures { result ≡ delay_fits setting }
 {
@@ -120,69 +110,40 @@ fn delay_fits(setting: DelaySetting) -> bool
 fn port_fits(setting: Setting, version: u8) -> bool
     ensures { result ≡ setting_fits setting && is_version version }
 {
-    let delay = setting.delay;
-    if delay_fits(delay) {
-        return version::is_version(version as u64);
-    }
-    false
+    delay_fits(setting.delay) && version::is_version(u64::from(version))
 }
 
 // Whether those of the first n ports are.
-fn ports_fit(n: u8, settings: [Setting; 8], versions: [u8; 8]) -> bool
+fn ports_fit(n: u8, settings: [Setting; PORTS], versions: [u8; PORTS]) -> bool
     requires { n ≤ 8 }
     ensures { result ≡ delays_fit_of (take n settings) && versions_fit_of (take n versions) }
 {
-    let end = n as usize;
-    let mut i: usize = 0;
-    while i < end {
-        let setting = settings[i];
-        if port_fits(setting, versions[i]) {
-            i += 1;
-        } else {
-            return false;
-        }
-    }
-    true
+    settings[..usize::from(n)]
+        .iter()
+        .zip(&versions)
+        .all(|(setting, version)| port_fits(*setting, *version))
 }
 
 // Whether ports, timeout, backTime and fixed delays are in their ranges, and there are such versions.
+#[tactic(auto, unfolding(bridge::specs::Fits::ranges_fit))]
 pub fn ranges_fit(s: Setup) -> bool
     ensures { result ≡ ranges_fit s }
 {
-    if s.n < FEWEST_PORTS {
-        return false;
-    }
-    if MOST_PORTS < s.n {
-        return false;
-    }
-    if s.timeout < LEAST_TIMEOUT {
-        return false;
-    }
-    if GREATEST_TIMEOUT < s.timeout {
-        return false;
-    }
-    if BACK_END <= s.sender.back {
-        return false;
-    }
-    let settings = s.settings;
-    let versions = s.versions;
-    ports_fit(s.n, settings, versions)
+    FEWEST_PORTS <= s.n
+        && s.n <= MOST_PORTS
+        && LEAST_TIMEOUT <= s.timeout
+        && s.timeout <= GREATEST_TIMEOUT
+        && s.sender.back < BACK_END
+        && ports_fit(s.n, s.settings, s.versions)
 }
 
 // Whether a station of this profile may have so many ports, a clock of its own, and this backTime.
+#[tactic(auto, unfolding(bridge::specs::Fits::profile_fits))]
 pub fn profile_fits(profile: Profile, n: u8, capable: bool, back: u64) -> bool
     ensures { result ≡ profile_fits profile n capable back }
 {
     match profile {
         Profile::Full => true,
-        Profile::Listener => {
-            if n != LISTENER_PORTS {
-                return false;
-            }
-            if capable {
-                return false;
-            }
-            back == LISTENER_BACK
-        }
+        Profile::Listener => n == LISTENER_PORTS && !capable && back == LISTENER_BACK,
     }
 }
