@@ -6,7 +6,7 @@ use Rattle.bus.specs.Bus.{outward_of, own_second, next_of, inward_of, register_o
 use Rattle.bus.specs.Edges.{outwards, inwards, registers, fields}
 
 pub outwards_hold : Holds outwards
-unfolding outwards outward_of part_of
+unfolding outwards outward_of part_of least_of
 outwards_hold = refl
 
 pub inwards_hold : Holds inwards

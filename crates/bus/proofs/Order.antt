@@ -4,15 +4,16 @@ use native.Mathlib.Omega.{arith}
 use Prim.Native.Nat.{◌^◌}
 use borrow.Author.Tests.{ltb-true, ltb-false}
 use lib.Dec.{ltb}
+use Rattle.std.proofs.Common.{Ok, Err}
+use Rattle.refusals.specs.Answer.{answer_number}
+use Rattle.refusals.specs.declared.Refusal.TheVariants.{OutOfRange}
 use Rattle.refusals.specs.Order.{Lowest, nowhere}
 use Rattle.times.specs.Times.{second, InRange}
 use Rattle.times.specs.declared.GrandTime.{GrandTime}
-use Rattle.bus.specs.Bus.{is_grand, is_bus, bus_time_of, outward_of, next_of, inward_of, cycle_time_of, register_of, outward_no, inward_no, register_no}
+use Rattle.bus.specs.Bus.{is_grand, is_bus, bus_time_of, outward_of, next_of, inward_of, cycle_time_of, register_of}
 use Rattle.bus.specs.Demands.{OnBus, NoneLeft}
 use Rattle.bus.specs.Order.{grand_conditions, bus_conditions, inward_conditions}
 use Rattle.bus.specs.declared.BusTime.{BusTime}
-use Rattle.bus.specs.declared.ToBus.TheVariants as Outward
-use Rattle.bus.specs.declared.ToRegister.TheVariants as Register
 use Rattle.bus.proofs.BusLaws.{holds_grand, holds_bus, next_is, none_left}
 use Rattle.times.proofs.TestLaws.{both_hold}
 use Rattle.refusals.proofs.Order.{first_lowest, less_fails, first_else, Fails, Checks, check, check_both, check_all, checked, checked_then}
@@ -24,13 +25,13 @@ grand_check g = check_both (less_fails g.0 (2 ^ 40)) (check (less_fails g.1 (2 ^
 bus_check : (t : BusTime) → Checks 2 (is_bus t) (bus_conditions t)
 bus_check t = check_both (less_fails t.seconds 128) (check_both (less_fails t.cycle 8000) (check (less_fails t.offset 3072)))
 
-pub outward_lowest : (g : GrandTime) → Lowest (grand_conditions g) (outward_no (outward_of g))
+pub outward_lowest : (g : GrandTime) → Lowest (grand_conditions g) (answer_number (outward_of g))
 unfolding outward_of
-outward_lowest g = first_lowest 1 refl (checked outward_no (Outward.At (bus_time_of g)) (Outward.Refused 2) refl refl (grand_check g))
+outward_lowest g = first_lowest 1 refl (checked answer_number (Ok (bus_time_of g)) (Err OutOfRange) refl refl (grand_check g))
 
-pub register_lowest : (t : BusTime) → Lowest (bus_conditions t) (register_no (register_of t))
+pub register_lowest : (t : BusTime) → Lowest (bus_conditions t) (answer_number (register_of t))
 unfolding register_of
-register_lowest t = first_lowest 1 refl (checked register_no (Register.Holds (cycle_time_of t)) (Register.Refused 2) refl refl (bus_check t))
+register_lowest t = first_lowest 1 refl (checked answer_number (Ok (cycle_time_of t)) (Err OutOfRange) refl refl (bus_check t))
 
 -- 13 by the next grand time with the fields
 next_fails : (t : BusTime) (hint : GrandTime) → OnBus t → InRange hint → Fails (ltb (next_of t hint).0 second) (NoneLeft t hint)
@@ -41,11 +42,11 @@ next_fails t hint on range =
       not = λ e none. none (next_of t hint) (record { seconds = ltb-true (next_of t hint).0 second e; fraction = n.fraction }) n.fields n.after;
     }
 
-pub inward_lowest : (t : BusTime) (hint : GrandTime) → Lowest (inward_conditions t hint) (inward_no (inward_of t hint))
+pub inward_lowest : (t : BusTime) (hint : GrandTime) → Lowest (inward_conditions t hint) (answer_number (inward_of t hint))
 unfolding inward_of
 inward_lowest t hint =
     first_lowest 1 refl
-    (checked_then inward_no (omega arith) refl refl (check_all (omega arith) refl (bus_check t) (grand_check hint))
+    (checked_then answer_number (omega arith) refl refl (check_all (omega arith) refl (bus_check t) (grand_check hint))
     (λ e.
     let (b, g) = both_hold (is_bus t) (is_grand hint) e in
-    first_else inward_no (next_fails t hint (holds_bus t b) (holds_grand hint g)) (λ _. nowhere refl)))
+    first_else answer_number (next_fails t hint (holds_bus t b) (holds_grand hint g)) (λ _. nowhere refl)))

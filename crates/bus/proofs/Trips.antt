@@ -8,17 +8,17 @@ use native.Mathlib.Decide.{dec_le}
 use native.Mathlib.Omega.{arith}
 use borrow.Author.Tests.{lt-ltb, ltb-true, ltb-false}
 use lib.Dec.{ltb}
+use Rattle.std.proofs.Common.{Result, Ok, Err}
+use Rattle.refusals.specs.Answer.{answer_number}
+use Rattle.refusals.specs.declared.Refusal.{Refusal}
+use Rattle.refusals.specs.declared.Refusal.TheVariants.{OutOfRange}
 use Rattle.times.specs.Times.{second, units, InRange}
 use Rattle.times.specs.Parts.{least_of}
 use Rattle.times.specs.declared.GrandTime.{GrandTime}
-use Rattle.bus.specs.Bus.{bus_seconds, cycle_ticks, second_ticks, is_grand, is_bus, tick_of, bus_time_of, outward_of, next_of, before_end, inward_of, inward_no, cycle_time_of, register_of, fields_of}
+use Rattle.bus.specs.Bus.{bus_seconds, cycle_ticks, second_ticks, is_grand, is_bus, tick_of, bus_time_of, outward_of, next_of, before_end, inward_of, cycle_time_of, register_of, fields_of}
 use Rattle.bus.specs.Demands.{OnBus, Next, NoneLeft, Taken, OutwardAnswers, InwardAnswers, RegisterAnswers, InReach, tick_units, JustBefore, ticks}
 use Rattle.bus.specs.declared.BusTime.{BusTime}
 use Rattle.bus.specs.declared.CycleTime.{CycleTime}
-use Rattle.bus.specs.declared.ToBus.TheVariants as Outward
-use Rattle.bus.specs.declared.FromBus.{FromBus}
-use Rattle.bus.specs.declared.FromBus.TheVariants as Inward
-use Rattle.bus.specs.declared.ToRegister.TheVariants as Register
 use Rattle.bus.proofs.BusLaws.{grand_holds, holds_grand, bus_holds, holds_bus, tick_reached, tick_lt, fields_tick, next_is, none_left}
 use Rattle.numbers.proofs.Branches.{if_true, if_when}
 use Rattle.times.proofs.TestLaws.{both_hold}
@@ -32,7 +32,7 @@ unfolding outward_of
 outward_answers g =
     if_when (OutwardAnswers g) (is_grand g)
     (λ e. inr (refl, refl, holds_grand g e))
-    (λ e. inl (refl, λ r. true≢false (sym (grand_holds g r) ∙ e)))
+    (λ e. inl (refl, refl, λ r. true≢false (sym (grand_holds g r) ∙ e)))
 
 -- 2 exactly for a field or a hint out of range, then 13 exactly where no grand time is left with the fields, and else the next one that has them
 pub inward_answers : (t : BusTime) (hint : GrandTime) → InwardAnswers t hint (inward_of t hint)
@@ -40,38 +40,38 @@ unfolding inward_of
 inward_answers t hint =
     if_when (InwardAnswers t hint) (is_bus t && is_grand hint)
     (λ e. let (b, g) = both_hold (is_bus t) (is_grand hint) e in taken (holds_bus t b) (holds_grand hint g))
-    (λ e. inl (refl, λ (on, range). true≢false (sym (rw (bus_holds t on, grand_holds hint range)) ∙ e)))
+    (λ e. inl (refl, refl, λ (on, range). true≢false (sym (rw (bus_holds t on, grand_holds hint range)) ∙ e)))
   where
     taken : OnBus t → InRange hint → InwardAnswers t hint (before_end (next_of t hint))
     taken on range =
         let n = next_is t hint on range.fraction in
         if_when (InwardAnswers t hint) (ltb (next_of t hint).0 second)
         (λ e. inr (inr (refl, (on, range), (next_of t hint, refl, record { seconds = ltb-true (next_of t hint).0 second e; fraction = n.fraction }, n))))
-        (λ e. inr (inl (refl, (on, range), none_left t hint on range.fraction (ltb-false (next_of t hint).0 second e))))
+        (λ e. inr (inl (refl, refl, (on, range), none_left t hint on range.fraction (ltb-false (next_of t hint).0 second e))))
 
 pub register_answers : (t : BusTime) → RegisterAnswers t (register_of t)
 unfolding register_of
 register_answers t =
     if_when (RegisterAnswers t) (is_bus t)
     (λ e. inr (refl, refl, holds_bus t e))
-    (λ e. inl (refl, λ r. true≢false (sym (bus_holds t r) ∙ e)))
+    (λ e. inl (refl, refl, λ r. true≢false (sym (bus_holds t r) ∙ e)))
 
 -- ---- what an answer tells
 
-outward_told : (g : GrandTime) (t : BusTime) → outward_of g ≡ Outward.At t → InRange g × (bus_time_of g ≡ t)
+outward_told : (g : GrandTime) (t : BusTime) → outward_of g ≡ Ok t → InRange g × (bus_time_of g ≡ t)
 outward_told g t e = go (subst (OutwardAnswers g) e (outward_answers g))
   where
-    go : OutwardAnswers g (Outward.At t) → InRange g × (bus_time_of g ≡ t)
-    go (inl (q, f)) = absurd (omega (arith, q))
+    go : OutwardAnswers g (Ok t) → InRange g × (bus_time_of g ≡ t)
+    go (inl (q, n, f)) = absurd (omega (arith, q))
     go (inr (d, q, r)) = (r, let k : bus_time_of g ≡ t = cc in k)
 
 -- the grand time that Inward gives is in range and the next one with the fields
-pub inward_next : (t : BusTime) (hint g : GrandTime) → inward_of t hint ≡ Inward.At g → InRange g × Next t hint g
+pub inward_next : (t : BusTime) (hint g : GrandTime) → inward_of t hint ≡ Ok g → InRange g × Next t hint g
 inward_next t hint g e = go (subst (InwardAnswers t hint) e (inward_answers t hint))
   where
-    go : InwardAnswers t hint (Inward.At g) → InRange g × Next t hint g
-    go (inl (q, f)) = absurd (omega (arith, q))
-    go (inr (inl (q, r, f))) = absurd (omega (arith, q))
+    go : InwardAnswers t hint (Ok g) → InRange g × Next t hint g
+    go (inl (q, n, f)) = absurd (omega (arith, q))
+    go (inr (inl (q, n, r, f))) = absurd (omega (arith, q))
     go (inr (inr (d, r, (k, q, i, n)))) =
         let same : k ≡ g = cc in
         subst (λ (x : GrandTime). InRange x × Next t hint x) same (i, n)
@@ -83,7 +83,7 @@ next_one t hint a b m n =
     let same : units a ≡ units b = omega (arith, m.least b n.fraction n.fields n.after, n.least a m.fraction m.fields m.after) in
     grand_is a (units b) m.fraction same ∙ sym (grand_is b (units b) n.fraction refl)
 
-pub inward_is : (t : BusTime) (hint g : GrandTime) → OnBus t → InRange hint → InRange g → Next t hint g → inward_of t hint ≡ Inward.At g
+pub inward_is : (t : BusTime) (hint g : GrandTime) → OnBus t → InRange hint → InRange g → Next t hint g → inward_of t hint ≡ Ok g
 unfolding inward_of
 inward_is t hint g on range within n =
     rw (bus_holds t on, grand_holds hint range, next_one t hint (next_of t hint) g (next_is t hint on range.fraction) n, lt-ltb g.0 second within.seconds) refl
@@ -97,21 +97,21 @@ outward_on g h =
     record { seconds = omega arith; cycle = omega arith; offset = omega arith }
 
 -- Outward after Inward is the same fields
-pub outward_inward : (t : BusTime) (hint g : GrandTime) → inward_of t hint ≡ Inward.At g → outward_of g ≡ Outward.At t
+pub outward_inward : (t : BusTime) (hint g : GrandTime) → inward_of t hint ≡ Ok g → outward_of g ≡ Ok t
 unfolding outward_of
 outward_inward t hint g e =
     let (r, n) = inward_next t hint g e in
-    sym (if_true (is_grand g) (Outward.At (bus_time_of g)) (Outward.Refused 2) (grand_holds g r)) ∙ ap Outward.At n.fields
+    sym (if_true (is_grand g) (Ok (bus_time_of g)) (Err OutOfRange) (grand_holds g r)) ∙ ap Ok n.fields
 
 -- Inward gives the least: it isn't below the hint, and no earlier grand time that isn't has those fields
-pub inward_least : (t : BusTime) (hint g : GrandTime) → inward_of t hint ≡ Inward.At g
-    → (units hint ≤ units g) × ((other : GrandTime) → outward_of other ≡ Outward.At t → units hint ≤ units other → units g ≤ units other)
+pub inward_least : (t : BusTime) (hint g : GrandTime) → inward_of t hint ≡ Ok g
+    → (units hint ≤ units g) × ((other : GrandTime) → outward_of other ≡ Ok t → units hint ≤ units other → units g ≤ units other)
 inward_least t hint g e =
     let (r, n) = inward_next t hint g e in
     (n.after, λ other q h. let (i, k) = outward_told other t q in n.least other i.fraction k h)
 
 -- and it is less than 128 s after the hint: 128 s before it the fields are the same
-pub inward_soon : (t : BusTime) (hint g : GrandTime) → inward_of t hint ≡ Inward.At g → units g < units hint + bus_seconds * second
+pub inward_soon : (t : BusTime) (hint g : GrandTime) → inward_of t hint ≡ Ok g → units g < units hint + bus_seconds * second
 inward_soon t hint g e = by (dec_le bus_seconds g.0)
   where
     n : Next t hint g
@@ -127,24 +127,24 @@ inward_soon t hint g e = by (dec_le bus_seconds g.0)
         omega arith
 
 -- Inward of what Outward gives, with the grand time itself as the hint, is that grand time
-pub inward_outward : (g : GrandTime) (t : BusTime) → outward_of g ≡ Outward.At t → inward_of t g ≡ Inward.At g
+pub inward_outward : (g : GrandTime) (t : BusTime) → outward_of g ≡ Ok t → inward_of t g ≡ Ok g
 inward_outward g t e =
     let (r, q) = outward_told g t e in
     let on : OnBus t = subst OnBus q (outward_on g r.fraction) in
     inward_is t g g on r r (record { fraction = r.fraction; fields = q; after = omega arith; least = λ other h k l. l })
 
 -- 13 is given exactly where fields and hint are in range and no grand time is left with the fields
-pub inward_beyond : (t : BusTime) (hint : GrandTime) → (inward_no (inward_of t hint) ≡ 13) ↔ (Taken t hint × NoneLeft t hint)
+pub inward_beyond : (t : BusTime) (hint : GrandTime) → (answer_number (inward_of t hint) ≡ 13) ↔ (Taken t hint × NoneLeft t hint)
 inward_beyond t hint = (there (inward_of t hint) (inward_answers t hint), λ (r, none). back (inward_of t hint) r none (inward_answers t hint))
   where
-    there : (a : FromBus) → InwardAnswers t hint a → inward_no a ≡ 13 → Taken t hint × NoneLeft t hint
-    there a (inl (q, f)) e = absurd (omega (arith, q, e))
-    there a (inr (inl (q, r, none))) e = (r, none)
+    there : (a : Result GrandTime Refusal) → InwardAnswers t hint a → answer_number a ≡ 13 → Taken t hint × NoneLeft t hint
+    there a (inl (q, n, f)) e = absurd (omega (arith, q, e))
+    there a (inr (inl (q, n, r, none))) e = (r, none)
     there a (inr (inr (q, r, rest))) e = absurd (omega (arith, q, e))
 
-    back : (a : FromBus) → Taken t hint → NoneLeft t hint → InwardAnswers t hint a → inward_no a ≡ 13
-    back a r none (inl (q, f)) = absurd (f r)
-    back a r none (inr (inl (q, s, l))) = q
+    back : (a : Result GrandTime Refusal) → Taken t hint → NoneLeft t hint → InwardAnswers t hint a → answer_number a ≡ 13
+    back a r none (inl (q, n, f)) = absurd (f r)
+    back a r none (inr (inl (q, n, s, l))) = q
     back a r none (inr (inr (q, s, (g, k, i, n)))) = absurd (none g i n.fields n.after)
 
 -- ---- hints that are good enough
@@ -166,8 +166,8 @@ own_tick hint k g reach i j after most s m = omega (arith, early)
         omega (arith, reach.past (record { 0 = g.0 - bus_seconds; 1 = k.1 }) i (omega arith) m)
 
 -- with a hint at or before a grand time at which the same tick of 128 s before is over, what Inward gives lies in the grand time's tick, no later than it
-pub inward_reach : (g : GrandTime) (t : BusTime) (hint : GrandTime) → outward_of g ≡ Outward.At t → InRange hint → InReach hint g
-    → (k : GrandTime) × (inward_of t hint ≡ Inward.At k) × JustBefore k g
+pub inward_reach : (g : GrandTime) (t : BusTime) (hint : GrandTime) → outward_of g ≡ Ok t → InRange hint → InReach hint g
+    → (k : GrandTime) × (inward_of t hint ≡ Ok k) × JustBefore k g
 inward_reach g t hint e range reach =
     let (r, q) = outward_told g t e in
     let on : OnBus t = subst OnBus q (outward_on g r.fraction) in
@@ -187,7 +187,7 @@ inward_reach g t hint e range reach =
     )
 
 -- and with no other hint does it
-pub reach_only : (g : GrandTime) (t : BusTime) (hint k : GrandTime) → outward_of g ≡ Outward.At t → inward_of t hint ≡ Inward.At k → JustBefore k g → InReach hint g
+pub reach_only : (g : GrandTime) (t : BusTime) (hint k : GrandTime) → outward_of g ≡ Ok t → inward_of t hint ≡ Ok k → JustBefore k g → InReach hint g
 reach_only g t hint k e f near =
     let (r, q) = outward_told g t e in
     let (i, n) = inward_next t hint k f in
@@ -215,7 +215,7 @@ outward_whole g h = omega (arith, tick_lt g.1 h, part_whole second_ticks second 
 -- ---- the register
 
 -- the fields of a register that holds a bus time are that bus time
-pub fields_register : (t : BusTime) (r : CycleTime) → register_of t ≡ Register.Holds r → fields_of r ≡ t
+pub fields_register : (t : BusTime) (r : CycleTime) → register_of t ≡ Ok r → fields_of r ≡ t
 fields_register t r e = go (subst (RegisterAnswers t) e (register_answers t))
   where
     parted : OnBus t → fields_of (cycle_time_of t) ≡ t
@@ -225,15 +225,15 @@ fields_register t r e = go (subst (RegisterAnswers t) e (register_answers t))
         let o : (fields_of (cycle_time_of t)).offset ≡ t.offset = omega arith in
         λ i. record { seconds = s i; cycle = c i; offset = o i }
 
-    go : RegisterAnswers t (Register.Holds r) → fields_of r ≡ t
-    go (inl (q, f)) = absurd (omega (arith, q))
+    go : RegisterAnswers t (Ok r) → fields_of r ≡ t
+    go (inl (q, n, f)) = absurd (omega (arith, q))
     go (inr (d, q, on)) =
         let held : cycle_time_of t ≡ r = cc in
         ap fields_of (sym held) ∙ parted on
 
 -- and a register whose fields a bus can have holds them
-pub register_fields : (r : CycleTime) → OnBus (fields_of r) → register_of (fields_of r) ≡ Register.Holds r
+pub register_fields : (r : CycleTime) → OnBus (fields_of r) → register_of (fields_of r) ≡ Ok r
 unfolding register_of
 register_fields r on =
     let whole : (cycle_time_of (fields_of r)).0 ≡ r.0 = omega arith in
-    rw (bus_holds (fields_of r) on) (λ i. Register.Holds (record { 0 = whole i }))
+    rw (bus_holds (fields_of r) on) (λ i. Ok (record { 0 = whole i }))

@@ -1,19 +1,14 @@
 -- The cycle time of an IEEE 1394 bus: the bus time of a grand time, the grand time of a bus time, and the register.
-use Rattle.std.specs.Prelude.{Bool, cond, ◌&&◌, ℕ, ◌+◌, ◌*◌, ◌/◌, ◌%◌, ◌^◌, ltb, eqb}
-use Rattle.std.proofs.Math.Option.{Option, none, some}
+use Rattle.std.specs.Prelude.{Bool, cond, ◌&&◌, ℕ, ◌+◌, ◌*◌, ◌/◌, ◌%◌, ◌^◌, ltb, eqb, Result, Ok, Err}
 use Rattle.refusals.specs.Refusals.{done, out_of_range, beyond_range}
 use Rattle.refusals.specs.Chain.{unless}
+use Rattle.refusals.specs.declared.Refusal.{Refusal}
+use Rattle.refusals.specs.declared.Refusal.TheVariants.{OutOfRange, BeyondRange}
 use Rattle.times.specs.Times.{second, around_of}
 use Rattle.times.specs.Parts.{part_of, least_of}
 use Rattle.times.specs.declared.GrandTime.{GrandTime}
 use Rattle.bus.specs.declared.BusTime.{BusTime}
 use Rattle.bus.specs.declared.CycleTime.{CycleTime}
-use Rattle.bus.specs.declared.ToBus.{ToBus}
-use Rattle.bus.specs.declared.ToBus.TheVariants as Outward
-use Rattle.bus.specs.declared.FromBus.{FromBus}
-use Rattle.bus.specs.declared.FromBus.TheVariants as Inward
-use Rattle.bus.specs.declared.ToRegister.{ToRegister}
-use Rattle.bus.specs.declared.ToRegister.TheVariants as Register
 
 -- the bus counts 128 seconds; a second has 8,000 cycles of 3,072 ticks, which are 24,576,000
 abbrev pub bus_seconds : ℕ
@@ -46,8 +41,8 @@ abbrev pub bus_time_of : GrandTime → BusTime
 bus_time_of g = record { seconds = g.0 % bus_seconds; cycle = tick_of g.1 / cycle_ticks; offset = tick_of g.1 % cycle_ticks }
 
 -- 2 for seconds or a fraction out of range
-unfoldable pub outward_of : GrandTime → ToBus
-outward_of g = cond (is_grand g) (Outward.At (bus_time_of g)) (Outward.Refused out_of_range)
+unfoldable pub outward_of : GrandTime → Result BusTime Refusal
+outward_of g = cond (is_grand g) (Ok (bus_time_of g)) (Err OutOfRange)
 
 -- the number of the refusal, by the grand time
 abbrev pub outward_refusal : GrandTime → ℕ
@@ -78,12 +73,12 @@ unfoldable pub next_of : BusTime → GrandTime → GrandTime
 next_of t hint = cond (eqb (ahead_of t hint) 0) (own_second (tick_at t) hint) (start_of (hint.0 + ahead_of t hint) (tick_at t))
 
 -- 13 where that is at or past the end
-abbrev pub before_end : GrandTime → FromBus
-before_end g = cond (ltb g.0 second) (Inward.At g) (Inward.Refused beyond_range)
+abbrev pub before_end : GrandTime → Result GrandTime Refusal
+before_end g = cond (ltb g.0 second) (Ok g) (Err BeyondRange)
 
 -- 2 for a field or a hint out of range first
-unfoldable pub inward_of : BusTime → GrandTime → FromBus
-inward_of t hint = cond (is_bus t && is_grand hint) (before_end (next_of t hint)) (Inward.Refused out_of_range)
+unfoldable pub inward_of : BusTime → GrandTime → Result GrandTime Refusal
+inward_of t hint = cond (is_bus t && is_grand hint) (before_end (next_of t hint)) (Err OutOfRange)
 
 -- the number of the refusal, by the bus time and the hint
 abbrev pub inward_refusal : BusTime → GrandTime → ℕ
@@ -95,8 +90,8 @@ abbrev pub cycle_time_of : BusTime → CycleTime
 cycle_time_of t = record { 0 = t.seconds * 2 ^ 25 + t.cycle * 2 ^ 12 + t.offset }
 
 -- 2 for a field out of range
-unfoldable pub register_of : BusTime → ToRegister
-register_of t = cond (is_bus t) (Register.Holds (cycle_time_of t)) (Register.Refused out_of_range)
+unfoldable pub register_of : BusTime → Result CycleTime Refusal
+register_of t = cond (is_bus t) (Ok (cycle_time_of t)) (Err OutOfRange)
 
 -- the number of the refusal, by the bus time
 abbrev pub register_refusal : BusTime → ℕ
@@ -105,29 +100,3 @@ register_refusal t = unless (is_bus t) out_of_range done
 -- the fields of any register: Inward refuses a cycle or an offset that no bus counts to
 abbrev pub fields_of : CycleTime → BusTime
 fields_of r = record { seconds = r.0 / 2 ^ 25; cycle = r.0 / 2 ^ 12 % 2 ^ 13; offset = r.0 % 2 ^ 12 }
-
--- ---- the number of an answer, and what it carries
-
-abbrev pub outward_no : ToBus → ℕ
-outward_no (Outward.At t) = done
-outward_no (Outward.Refused k) = k
-
-abbrev pub outward_time : ToBus → Option BusTime
-outward_time (Outward.At t) = some t
-outward_time (Outward.Refused k) = none
-
-abbrev pub inward_no : FromBus → ℕ
-inward_no (Inward.At g) = done
-inward_no (Inward.Refused k) = k
-
-abbrev pub inward_time : FromBus → Option GrandTime
-inward_time (Inward.At g) = some g
-inward_time (Inward.Refused k) = none
-
-abbrev pub register_no : ToRegister → ℕ
-register_no (Register.Holds r) = done
-register_no (Register.Refused k) = k
-
-abbrev pub register_bits : ToRegister → Option CycleTime
-register_bits (Register.Holds r) = some r
-register_bits (Register.Refused k) = none

@@ -1,13 +1,13 @@
 -- What the theorems on the bus's cycle time say.
-use Rattle.std.specs.Prelude.{◌≡◌, ◌⊎◌, ℕ, ◌+◌, ◌*◌, ◌<◌, ◌≤◌}
-use Rattle.std.proofs.Math.Option.{some}
+use Rattle.std.specs.Prelude.{◌≡◌, ◌⊎◌, ℕ, ◌+◌, ◌*◌, ◌<◌, ◌≤◌, Result}
+use Rattle.std.proofs.Math.Option.{none, some}
+use Rattle.refusals.specs.Answer.{answer_number, answer_value}
+use Rattle.refusals.specs.declared.Refusal.{Refusal}
 use Rattle.times.specs.Times.{second, units, InRange}
 use Rattle.times.specs.declared.GrandTime.{GrandTime}
-use Rattle.bus.specs.Bus.{bus_seconds, second_cycles, cycle_ticks, second_ticks, tick_of, bus_time_of, tick_at, cycle_time_of, outward_no, outward_time, inward_no, inward_time, register_no, register_bits}
+use Rattle.bus.specs.Bus.{bus_seconds, second_cycles, cycle_ticks, second_ticks, tick_of, bus_time_of, tick_at, cycle_time_of}
 use Rattle.bus.specs.declared.BusTime.{BusTime}
-use Rattle.bus.specs.declared.ToBus.{ToBus}
-use Rattle.bus.specs.declared.FromBus.{FromBus}
-use Rattle.bus.specs.declared.ToRegister.{ToRegister}
+use Rattle.bus.specs.declared.CycleTime.{CycleTime}
 
 -- a bus time that a bus can have: every field below its end
 pub record OnBus (t : BusTime) : Type 0 where
@@ -30,20 +30,24 @@ NoneLeft t hint = (g : GrandTime) → InRange g → bus_time_of g ≡ t → unit
 
 -- ---- each answer, with what holds just where it is given
 
-abbrev pub OutwardAnswers : GrandTime → ToBus → Type 0
-OutwardAnswers g a = ((outward_no a ≡ 2) × (InRange g → ⊥)) ⊎ ((outward_no a ≡ 0) × (outward_time a ≡ some (bus_time_of g)) × InRange g)
+abbrev pub OutwardAnswers : GrandTime → Result BusTime Refusal → Type 0
+OutwardAnswers g a =
+    ((answer_number a ≡ 2) × (answer_value a ≡ none) × (InRange g → ⊥))
+    ⊎ ((answer_number a ≡ 0) × (answer_value a ≡ some (bus_time_of g)) × InRange g)
 
 abbrev pub Taken : BusTime → GrandTime → Type 0
 Taken t hint = OnBus t × InRange hint
 
-abbrev pub InwardAnswers : BusTime → GrandTime → FromBus → Type 0
+abbrev pub InwardAnswers : BusTime → GrandTime → Result GrandTime Refusal → Type 0
 InwardAnswers t hint a =
-    ((inward_no a ≡ 2) × (Taken t hint → ⊥))
-    ⊎ (((inward_no a ≡ 13) × Taken t hint × NoneLeft t hint)
-    ⊎ ((inward_no a ≡ 0) × Taken t hint × ((g : GrandTime) × (inward_time a ≡ some g) × InRange g × Next t hint g)))
+    ((answer_number a ≡ 2) × (answer_value a ≡ none) × (Taken t hint → ⊥))
+    ⊎ (((answer_number a ≡ 13) × (answer_value a ≡ none) × Taken t hint × NoneLeft t hint)
+    ⊎ ((answer_number a ≡ 0) × Taken t hint × ((g : GrandTime) × (answer_value a ≡ some g) × InRange g × Next t hint g)))
 
-abbrev pub RegisterAnswers : BusTime → ToRegister → Type 0
-RegisterAnswers t a = ((register_no a ≡ 2) × (OnBus t → ⊥)) ⊎ ((register_no a ≡ 0) × (register_bits a ≡ some (cycle_time_of t)) × OnBus t)
+abbrev pub RegisterAnswers : BusTime → Result CycleTime Refusal → Type 0
+RegisterAnswers t a =
+    ((answer_number a ≡ 2) × (answer_value a ≡ none) × (OnBus t → ⊥))
+    ⊎ ((answer_number a ≡ 0) × (answer_value a ≡ some (cycle_time_of t)) × OnBus t)
 
 -- ---- a hint that is good enough
 

@@ -1,15 +1,12 @@
 -- The bus's cycle time at the edges: tables of cases that we chose, each with what the request's rule gives.
-use Rattle.std.specs.Prelude.{List, [], ◌∷◌, ℕ, ◌+◌, ◌-◌, ◌^◌}
+use Rattle.std.specs.Prelude.{List, [], ◌∷◌, ℕ, ◌+◌, ◌-◌, ◌^◌, Result, Ok, Err}
 use Rattle.refusals.specs.Edge.{Edge}
+use Rattle.refusals.specs.declared.Refusal.{Refusal}
+use Rattle.refusals.specs.declared.Refusal.TheVariants.{OutOfRange, BeyondRange}
 use Rattle.times.specs.declared.GrandTime.{GrandTime}
 use Rattle.bus.specs.Bus.{outward_of, inward_of, register_of, fields_of}
 use Rattle.bus.specs.declared.BusTime.{BusTime}
-use Rattle.bus.specs.declared.ToBus.{ToBus}
-use Rattle.bus.specs.declared.ToBus.TheVariants as Outward
-use Rattle.bus.specs.declared.FromBus.{FromBus}
-use Rattle.bus.specs.declared.FromBus.TheVariants as Inward
-use Rattle.bus.specs.declared.ToRegister.{ToRegister}
-use Rattle.bus.specs.declared.ToRegister.TheVariants as Register
+use Rattle.bus.specs.declared.CycleTime.{CycleTime}
 
 abbrev at : ℕ → ℕ → GrandTime
 at second fraction = record { 0 = second; 1 = fraction }
@@ -19,13 +16,13 @@ bus seconds cycle offset = record { seconds = seconds; cycle = cycle; offset = o
 
 -- ---- Outward: a grand time; its fields
 
-abbrev out : GrandTime → BusTime → Edge ToBus
-out g t = record { got = outward_of g; says = Outward.At t }
+abbrev out : GrandTime → BusTime → Edge (Result BusTime Refusal)
+out g t = record { got = outward_of g; says = Ok t }
 
-abbrev not_out : GrandTime → Edge ToBus
-not_out g = record { got = outward_of g; says = Outward.Refused 2 }
+abbrev not_out : GrandTime → Edge (Result BusTime Refusal)
+not_out g = record { got = outward_of g; says = Err OutOfRange }
 
-unfoldable pub outwards : List (Edge ToBus)
+unfoldable pub outwards : List (Edge (Result BusTime Refusal))
 outwards =
     out (at 0 0) (bus 0 0 0)
     -- the first tick ends after 44,739.2 U
@@ -48,11 +45,11 @@ outwards =
 
 -- ---- Inward: fields and a hint; the grand time
 
-abbrev into : BusTime → GrandTime → GrandTime → Edge FromBus
-into t hint g = record { got = inward_of t hint; says = Inward.At g }
+abbrev into : BusTime → GrandTime → GrandTime → Edge (Result GrandTime Refusal)
+into t hint g = record { got = inward_of t hint; says = Ok g }
 
-abbrev not_into : BusTime → GrandTime → ℕ → Edge FromBus
-not_into t hint k = record { got = inward_of t hint; says = Inward.Refused k }
+abbrev not_into : BusTime → GrandTime → Refusal → Edge (Result GrandTime Refusal)
+not_into t hint refusal = record { got = inward_of t hint; says = Err refusal }
 
 -- second 5, tick 3,074: its first unit and its last
 abbrev place : BusTime
@@ -64,7 +61,7 @@ first = 137528432
 abbrev last : ℕ
 last = 137573171
 
-unfoldable pub inwards : List (Edge FromBus)
+unfoldable pub inwards : List (Edge (Result GrandTime Refusal))
 inwards =
     -- the hint in the tick: at its first unit, within it, at its last
     into place (at 5 first) (at 5 first)
@@ -88,30 +85,30 @@ inwards =
     -- the last that there is, and none after it
     ∷ into place (at (2 ^ 40 - 123) (first - 1)) (at (2 ^ 40 - 123) first)
     ∷ into place (at (2 ^ 40 - 123) last) (at (2 ^ 40 - 123) last)
-    ∷ not_into place (at (2 ^ 40 - 123) (last + 1)) 13
-    ∷ not_into place (at (2 ^ 40 - 122) 0) 13
+    ∷ not_into place (at (2 ^ 40 - 123) (last + 1)) BeyondRange
+    ∷ not_into place (at (2 ^ 40 - 122) 0) BeyondRange
     ∷ into (bus 127 7999 3071) (at (2 ^ 40 - 1) (2 ^ 40 - 1)) (at (2 ^ 40 - 1) (2 ^ 40 - 1))
     ∷ into (bus 127 7999 3071) (at (2 ^ 40 - 1) 0) (at (2 ^ 40 - 1) 1099511583037)
-    ∷ not_into (bus 127 7999 3070) (at (2 ^ 40 - 1) (2 ^ 40 - 1)) 13
-    ∷ not_into (bus 0 0 0) (at (2 ^ 40 - 1) 0) 13
+    ∷ not_into (bus 127 7999 3070) (at (2 ^ 40 - 1) (2 ^ 40 - 1)) BeyondRange
+    ∷ not_into (bus 0 0 0) (at (2 ^ 40 - 1) 0) BeyondRange
     -- out of range, also where no grand time would be left
-    ∷ not_into (bus 128 0 0) (at 0 0) 2
-    ∷ not_into (bus 0 8000 0) (at 0 0) 2
-    ∷ not_into (bus 0 0 3072) (at 0 0) 2
-    ∷ not_into place (at (2 ^ 40) 0) 2
-    ∷ not_into place (at 0 (2 ^ 40)) 2
-    ∷ not_into (bus 128 0 0) (at (2 ^ 40 - 1) (2 ^ 40 - 1)) 2
+    ∷ not_into (bus 128 0 0) (at 0 0) OutOfRange
+    ∷ not_into (bus 0 8000 0) (at 0 0) OutOfRange
+    ∷ not_into (bus 0 0 3072) (at 0 0) OutOfRange
+    ∷ not_into place (at (2 ^ 40) 0) OutOfRange
+    ∷ not_into place (at 0 (2 ^ 40)) OutOfRange
+    ∷ not_into (bus 128 0 0) (at (2 ^ 40 - 1) (2 ^ 40 - 1)) OutOfRange
     ∷ []
 
 -- ---- the register: fields, its 32 bits; and its 32 bits, fields
 
-abbrev held : BusTime → ℕ → Edge ToRegister
-held t bits = record { got = register_of t; says = Register.Holds (record { 0 = bits }) }
+abbrev held : BusTime → ℕ → Edge (Result CycleTime Refusal)
+held t bits = record { got = register_of t; says = Ok (record { 0 = bits }) }
 
-abbrev not_held : BusTime → Edge ToRegister
-not_held t = record { got = register_of t; says = Register.Refused 2 }
+abbrev not_held : BusTime → Edge (Result CycleTime Refusal)
+not_held t = record { got = register_of t; says = Err OutOfRange }
 
-unfoldable pub registers : List (Edge ToRegister)
+unfoldable pub registers : List (Edge (Result CycleTime Refusal))
 registers =
     held (bus 0 0 0) 0
     ∷ held (bus 0 0 1) 1

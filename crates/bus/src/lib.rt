@@ -1,8 +1,6 @@
 // The cycle time of an IEEE 1394 bus, for a recorder that hangs on one: the fields of a grand time, the grand time of fields, and the bus's register. The types, definitions and theorems stand here; the calls' code is above.
 #![tactic(auto)]
 
-use times::GrandTime;
-
 // A bus time: its second, modulo 128; the cycle of that second, 0 to 7,999; the tick of that cycle, 0 to 3,071.
 #[derive(Clone, Copy)]
 pub struct BusTime {
@@ -14,24 +12,3 @@ pub struct BusTime {
 // The 32 bits of the bus's CYCLE_TIME register.
 #[derive(Clone, Copy)]
 pub struct CycleTime(pub u32);
-
-// The bus time of a grand time, or a refusal.
-#[derive(Clone, Copy)]
-pub enum ToBus {
-    At(BusTime),
-    Refused(u8),
-}
-
-// The grand time of a bus time, or a refusal.
-#[derive(Clone, Copy)]
-pub enum FromBus {
-    At(GrandTime),
-    Refused(u8),
-}
-
-// The register of a bus time, or a refusal.
-#[derive(Clone, Copy)]
-pub enum ToRegister {
-    Holds(CycleTime),
-    Refused(u8),
-}

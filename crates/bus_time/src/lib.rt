@@ -5,9 +5,10 @@ ghost use Rattle.std.specs.Prelude.{◌≡◌, ◌<◌};
 ghost use Rattle.refusals.specs.Promises.{AnswerPromise};
 ghost use Rattle.times.specs.Times.{second, InRange};
 ghost use Rattle.bus.specs.Demands.{OnBus};
-ghost use Rattle.bus.specs.Bus.{second_ticks, is_grand, is_bus, tick_of, bus_time_of, outward_of, outward_refusal, tick_at, start_of, own_second, next_of, before_end, inward_of, inward_refusal, cycle_time_of, register_of, register_refusal, fields_of, outward_no, outward_time, inward_no, inward_time, register_no, register_bits};
+ghost use Rattle.bus.specs.Bus.{second_ticks, is_grand, is_bus, tick_of, bus_time_of, outward_of, outward_refusal, tick_at, start_of, own_second, next_of, before_end, inward_of, inward_refusal, cycle_time_of, register_of, register_refusal, fields_of};
 
-use bus::{BusTime, CycleTime, FromBus, ToBus, ToRegister};
+use bus::{BusTime, CycleTime};
+use refusals::Refusal;
 use times::{GrandTime, grand, local, parts};
 
 // The seconds that the bus counts, the cycles of a second, the ticks of a cycle.
@@ -33,26 +34,18 @@ const REGISTER_CYCLES: u64 = 0x2000;
 fn is_grand(time: GrandTime) -> bool
     ensures { result ≡ is_grand time }
 {
-    if grand::SECOND <= time.0 {
-        return false;
-    }
-    time.1 < grand::SECOND
+    time.0 < grand::SECOND && time.1 < grand::SECOND
 }
 
 // Whether the fields of a bus time are in range.
 fn is_bus(time: BusTime) -> bool
     ensures { result ≡ is_bus time }
 {
-    if BUS_SECONDS <= time.seconds {
-        return false;
-    }
-    if SECOND_CYCLES <= time.cycle {
-        return false;
-    }
-    time.offset < CYCLE_TICKS
+    time.seconds < BUS_SECONDS && time.cycle < SECOND_CYCLES && time.offset < CYCLE_TICKS
 }
 
 // The tick that a fraction lies in.
+#[tactic(auto, using(bus::proofs::PromiseLaws::tick_is))]
 fn tick_of(fraction: u64) -> u64
     requires { fraction < second }
     ensures { result ≡ tick_of fraction }
@@ -61,14 +54,15 @@ fn tick_of(fraction: u64) -> u64
 }
 
 // Outward: the bus time of a grand time, rounded down to the tick.
-pub fn outward(time: GrandTime) -> ToBus
-    ensures { AnswerPromise outward_no outward_time (outward_of time) (outward_refusal time) (bus_time_of time) result }
+#[tactic(auto, unfolding(bus::specs::Bus::outward_of))]
+pub fn outward(time: GrandTime) -> Result<BusTime, Refusal>
+    ensures { AnswerPromise (outward_of time) (outward_refusal time) (bus_time_of time) result }
 {
     if !is_grand(time) {
-        return ToBus::Refused(refusals::OUT_OF_RANGE);
+        return Err(Refusal::OutOfRange);
     }
     let tick = tick_of(time.1);
-    ToBus::At(BusTime {
+    Ok(BusTime {
         seconds: time.0 % BUS_SECONDS,
         cycle: tick / CYCLE_TICKS,
         offset: tick % CYCLE_TICKS,
@@ -76,14 +70,15 @@ pub fn outward(time: GrandTime) -> ToBus
 }
 
 // The start of a tick in a second, if that is one of grand time's.
-fn start(seconds: u64, tick: u64) -> FromBus
+#[tactic(auto, using(bus::proofs::PromiseLaws::least_is))]
+fn start(seconds: u64, tick: u64) -> Result<GrandTime, Refusal>
     requires { tick < second_ticks }
     ensures { result ≡ before_end (start_of seconds tick) }
 {
     if grand::SECOND <= seconds {
-        return FromBus::Refused(refusals::BEYOND_RANGE);
+        return Err(Refusal::BeyondRange);
     }
-    FromBus::At(GrandTime(seconds, parts::least(tick, COMMON_TICKS, COMMON_UNITS)))
+    Ok(GrandTime(seconds, parts::least(tick, COMMON_TICKS, COMMON_UNITS)))
 }
 
 // The tick of its second that a bus time names.
@@ -95,7 +90,8 @@ fn tick_at(time: BusTime) -> u64
 }
 
 // The next grand time in a tick, where the bus's second is the hint's own.
-fn own_second(tick: u64, hint: GrandTime) -> FromBus
+#[tactic(auto, unfolding(bus::specs::Bus::own_second))]
+fn own_second(tick: u64, hint: GrandTime) -> Result<GrandTime, Refusal>
     requires tick_lt_second_ticks { tick < second_ticks }
     requires in_range { InRange hint }
     ensures { result ≡ before_end (own_second tick hint) }
@@ -107,18 +103,16 @@ fn own_second(tick: u64, hint: GrandTime) -> FromBus
     if tick < here {
         return start(hint.0 + BUS_SECONDS, tick);
     }
-    FromBus::At(hint)
+    Ok(hint)
 }
 
 // Inward: the least grand time that has the fields of a bus time and isn't below the hint.
-pub fn inward(time: BusTime, hint: GrandTime) -> FromBus
-    ensures { AnswerPromise inward_no inward_time (inward_of time hint) (inward_refusal time hint) (next_of time hint) result }
+#[tactic(auto, unfolding(bus::specs::Bus::inward_of, bus::specs::Bus::next_of))]
+pub fn inward(time: BusTime, hint: GrandTime) -> Result<GrandTime, Refusal>
+    ensures { AnswerPromise (inward_of time hint) (inward_refusal time hint) (next_of time hint) result }
 {
-    if !is_bus(time) {
-        return FromBus::Refused(refusals::OUT_OF_RANGE);
-    }
-    if !is_grand(hint) {
-        return FromBus::Refused(refusals::OUT_OF_RANGE);
+    if !is_bus(time) || !is_grand(hint) {
+        return Err(Refusal::OutOfRange);
     }
     let tick = tick_at(time);
     let ahead = local::around(time.seconds, hint.0, BUS_SECONDS);
@@ -138,20 +132,21 @@ fn bits_of(time: BusTime) -> u32
 }
 
 // Register: the bus's register that holds a bus time.
-pub fn register(time: BusTime) -> ToRegister
-    ensures { AnswerPromise register_no register_bits (register_of time) (register_refusal time) (cycle_time_of time) result }
+#[tactic(auto, unfolding(bus::specs::Bus::register_of))]
+pub fn register(time: BusTime) -> Result<CycleTime, Refusal>
+    ensures { AnswerPromise (register_of time) (register_refusal time) (cycle_time_of time) result }
 {
     if !is_bus(time) {
-        return ToRegister::Refused(refusals::OUT_OF_RANGE);
+        return Err(Refusal::OutOfRange);
     }
-    ToRegister::Holds(CycleTime(bits_of(time)))
+    Ok(CycleTime(bits_of(time)))
 }
 
 // Fields: the bus time that the bits of a register say.
 pub fn fields(register: CycleTime) -> BusTime
     ensures { result ≡ fields_of register }
 {
-    let bits = register.0 as u64;
+    let bits = u64::from(register.0);
     BusTime {
         seconds: bits / REGISTER_SECOND,
         cycle: bits / REGISTER_CYCLE % REGISTER_CYCLES,
