@@ -15,7 +15,7 @@ const HOPS: usize = 256;
 pub fn passes_left(hop: u8) -> u8
     ensures { result ≡ passes_of hop }
 {
-    table::PASSES[hop as usize]
+    table::PASSES[usize::from(hop)]
 }
 
 // The passes left at a hop, worked out: none at the last; at any other, one more than at the hop that the jump leads to.
@@ -35,12 +35,10 @@ pub fn agrees(table: &[u8]) -> bool
     if table.len() != HOPS {
         return false;
     }
-    let mut hop: usize = 0;
-    while hop < HOPS {
-        if table[hop] != passes_by_rule(hop as u8) {
+    for (hop, passes) in table.iter().enumerate() {
+        if *passes != passes_by_rule(hop as u8) {
             return false;
         }
-        hop += 1;
     }
     true
 }

@@ -6,4 +6,4 @@ use Rattle.choice_passes.proofs.passes_left.Goals as goal
 
 pub returns : goal.returns
 unfolding staircase
-returns c = staircase_table.entry c.args.hop (search rules)
+returns c = rw c.from.ensures (staircase_table.entry c.args.hop (search rules))
