@@ -1,6 +1,8 @@
 -- The lines of replay over frames alone, F, W and B, and H over a hop: the fields that a line gives, and what is printed.
-use Rattle.std.specs.Prelude.{ℕ, cond, List, [], ◌∷◌, length, take, drop, get_or, replicate, eqb}
-use Rattle.refusals.specs.Refusals.{done}
+use Rattle.std.specs.Prelude.{ℕ, cond, Result, Ok, Err, List, [], ◌∷◌, length, take, drop, get_or, replicate, eqb}
+use Rattle.refusals.specs.Refusals.{done, number_of}
+use Rattle.refusals.specs.Answer.{answer_number}
+use Rattle.refusals.specs.declared.Refusal.{Refusal}
 use Rattle.numbers.specs.Bytes.{number_at}
 use Rattle.times.specs.declared.ErrorTime.{ErrorTime}
 use Rattle.choice.specs.Passes.{passes_of}
@@ -10,8 +12,6 @@ use Rattle.frame.specs.Write.{write_refusal, written_of}
 use Rattle.frame.specs.Better.{standing_of, winner_of, precedence_start, precedence_bytes}
 use Rattle.frame.specs.declared.Mac.{Mac}
 use Rattle.frame.specs.declared.Fields.{Fields}
-use Rattle.frame.specs.declared.Reading.{Reading}
-use Rattle.frame.specs.declared.Reading.TheVariants.{Frame, Refused}
 use Rattle.frame.specs.declared.Winner.{Winner}
 use Rattle.frame.specs.declared.Winner.TheVariants.{Neither, First, Second}
 use Rattle.hexadecimal.specs.Character.{space, newline}
@@ -78,12 +78,12 @@ field_values f =
     ∷ f.hop ∷ space ∷ f.count ∷ space ∷ f.grand.0 ∷ f.grand.1 ∷ space
     ∷ f.local.0 ∷ space ∷ f.tx.0 ∷ space ∷ f.rx.0 ∷ space ∷ f.error.0 ∷ space ∷ f.version ∷ newline ∷ []
 
-abbrev pub read_text : Reading → List ℕ
-read_text (Refused k) = line1 k
-read_text (Frame f) = columns_text field_widths (field_values f)
+abbrev pub read_text : Result Fields Refusal → List ℕ
+read_text (Ok f) = columns_text field_widths (field_values f)
+read_text (Err refusal) = line1 (number_of refusal)
 
 abbrev pub write_text : Fields → List ℕ → List ℕ
-write_text f out = line_with (write_refusal f (length out)) (written_of f out)
+write_text f out = line_with (answer_number (write_refusal f (length out))) (written_of f out)
 
 -- the precedence bytes of the better of two frames
 abbrev pub piece_of : Winner → List ℕ → List ℕ → List ℕ

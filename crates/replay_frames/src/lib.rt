@@ -12,7 +12,8 @@ ghost use Rattle.replay_frames.specs.Frames.{mac_from, precedence_from, error_in
 use choice::Precedence;
 use columns::{BYTE, CHARACTER, NEWLINE, SPACE};
 use forms::{Form, value};
-use frame::{Fields, Mac, Reading};
+use frame::{Fields, Mac};
+use refusals::Refusal;
 use times::{ErrorTime, GrandTime, LocalTime};
 
 // Where the parts of a precedence and an errorTime stand in the line's bytes, and how many bytes a part has that is more than one.
@@ -34,85 +35,108 @@ const ERROR: usize = 19;
 
 const ERROR_BYTES: usize = 4;
 
-// What every byte of an output is before a call.
+// Where the fields of W stand that are numbers.
+const HOP_FIELD: usize = 2;
+
+const COUNT_FIELD: usize = 3;
+
+const SECONDS_FIELD: usize = 4;
+
+const FRACTION_FIELD: usize = 5;
+
+const LOCAL_FIELD: usize = 6;
+
+const TX_FIELD: usize = 7;
+
+const RX_FIELD: usize = 8;
+
+const VERSION_FIELD: usize = 10;
+
+const LENGTH_FIELD: usize = 11;
+
+// What every byte of an output is before a call, and how many bytes an output has at most.
 pub const UNTOUCHED: u8 = 0xA5;
 
+pub const MOST_LENGTH: usize = 128;
+
 // The address at the start of the line's bytes.
-pub fn mac(b: [u8; 256]) -> Mac
-    ensures { result ≡ mac_from b }
+pub fn mac(b: &[u8; 256]) -> Mac
+    ensures { result ≡ mac_from b.now }
 {
     Mac(b[0], b[1], b[2], b[3], b[4], b[5])
 }
 
 // The precedence after it.
-pub fn precedence(b: [u8; 256]) -> Precedence
-    ensures { result ≡ precedence_from b }
+pub fn precedence(b: &[u8; 256]) -> Precedence
+    ensures { result ≡ precedence_from b.now }
 {
     Precedence {
         priority1: b[PRIORITY1],
         source: b[SOURCE],
-        variance: numbers_bytes::number_at(&b, VARIANCE, VARIANCE_BYTES) as u16,
+        variance: numbers_bytes::number_at(b, VARIANCE, VARIANCE_BYTES) as u16,
         priority2: b[PRIORITY2],
-        clock: numbers_bytes::number_at(&b, CLOCK, CLOCK_BYTES),
+        clock: numbers_bytes::number_at(b, CLOCK, CLOCK_BYTES),
     }
 }
 
 // The errorTime after both.
-fn error(b: [u8; 256]) -> ErrorTime
-    ensures { result ≡ error_in b }
+fn error(b: &[u8; 256]) -> ErrorTime
+    ensures { result ≡ error_in b.now }
 {
-    ErrorTime(numbers_bytes::number_at(&b, ERROR, ERROR_BYTES) as u32)
+    ErrorTime(numbers_bytes::number_at(b, ERROR, ERROR_BYTES) as u32)
 }
 
 // The fields of a frame to be written.
+#[tactic(auto, unfolding(crate::specs::Frames::fields_in))]
 fn frame_fields(form: Form) -> Fields
     ensures { result ≡ fields_in form }
 {
-    let bytes = form.bytes;
     Fields {
-        sa: mac(bytes),
-        precedence: precedence(bytes),
-        hop: value::byte(form, 2),
-        count: value::byte(form, 3),
-        grand: GrandTime(form.numbers[4], form.numbers[5]),
-        local: LocalTime(form.numbers[6]),
-        tx: LocalTime(form.numbers[7]),
-        rx: LocalTime(form.numbers[8]),
-        error: error(bytes),
-        version: value::byte(form, 10),
+        sa: mac(&form.bytes),
+        precedence: precedence(&form.bytes),
+        hop: value::byte(form, HOP_FIELD),
+        count: value::byte(form, COUNT_FIELD),
+        grand: GrandTime(form.numbers[SECONDS_FIELD], form.numbers[FRACTION_FIELD]),
+        local: LocalTime(form.numbers[LOCAL_FIELD]),
+        tx: LocalTime(form.numbers[TX_FIELD]),
+        rx: LocalTime(form.numbers[RX_FIELD]),
+        error: error(&form.bytes),
+        version: value::byte(form, VERSION_FIELD),
     }
 }
 
-// How many bytes each column of a frame's fields has.
-const WIDTHS: [usize; 32] = [
+// How many columns a frame's fields have, and how many bytes each.
+const COLUMNS: usize = 32;
+
+const WIDTHS: [usize; COLUMNS] = [
     BYTE, CHARACTER, BYTE, BYTE, BYTE, BYTE, BYTE, BYTE, CHARACTER, BYTE, BYTE, 2, BYTE, 8,
     CHARACTER, BYTE, CHARACTER, BYTE, CHARACTER, 5, 5, CHARACTER, 6, CHARACTER, 6, CHARACTER, 6,
     CHARACTER, 4, CHARACTER, BYTE, CHARACTER,
 ];
 
 // What each column of a frame's fields says.
-fn values(f: Fields) -> [u64; 32]
-    ensures { result ≡ field_values f }
+fn values(f: &Fields) -> [u64; COLUMNS]
+    ensures { result ≡ field_values f.now }
 {
     [
-        refusals::DONE as u64,
+        u64::from(refusals::DONE),
         SPACE,
-        f.sa.0 as u64,
-        f.sa.1 as u64,
-        f.sa.2 as u64,
-        f.sa.3 as u64,
-        f.sa.4 as u64,
-        f.sa.5 as u64,
+        u64::from(f.sa.0),
+        u64::from(f.sa.1),
+        u64::from(f.sa.2),
+        u64::from(f.sa.3),
+        u64::from(f.sa.4),
+        u64::from(f.sa.5),
         SPACE,
-        f.precedence.priority1 as u64,
-        f.precedence.source as u64,
-        f.precedence.variance as u64,
-        f.precedence.priority2 as u64,
+        u64::from(f.precedence.priority1),
+        u64::from(f.precedence.source),
+        u64::from(f.precedence.variance),
+        u64::from(f.precedence.priority2),
         f.precedence.clock,
         SPACE,
-        f.hop as u64,
+        u64::from(f.hop),
         SPACE,
-        f.count as u64,
+        u64::from(f.count),
         SPACE,
         f.grand.0,
         f.grand.1,
@@ -123,21 +147,21 @@ fn values(f: Fields) -> [u64; 32]
         SPACE,
         f.rx.0,
         SPACE,
-        f.error.0 as u64,
+        u64::from(f.error.0),
         SPACE,
-        f.version as u64,
+        u64::from(f.version),
         NEWLINE,
     ]
 }
 
 // Prints what a frame says, or why it can't be read.
-fn reading(said: Reading, out: &mut [u8]) -> usize
+fn reading(said: Result<Fields, Refusal>, out: &mut [u8]) -> usize
     requires { longest_answer ≤ length out.old }
     ensures { Prints (read_text said) result out.old out.new }
 {
     match said {
-        Reading::Refused(no) => columns::one(out, no),
-        Reading::Frame(f) => columns::line(out, &WIDTHS, &values(f)),
+        Ok(f) => columns::line(out, &WIDTHS, &values(&f)),
+        Err(refusal) => columns::one(out, u8::from(refusal)),
     }
 }
 
@@ -148,8 +172,7 @@ fn read(form: Form, out: &mut [u8]) -> usize
     ensures { Prints (read_text (read_of (take (size_in form 0) form.bytes))) result out.old out.new }
 {
     let n = value::size(form, 0);
-    let bytes = form.bytes;
-    reading(frame_read::read(&bytes[..n]), out)
+    reading(frame_read::read(&form.bytes[..n]), out)
 }
 
 // Write into an output of at most 128 bytes.
@@ -159,7 +182,7 @@ fn written(f: Fields, frame: &mut [u8], out: &mut [u8]) -> usize
     ensures { Prints (write_text f frame.old) result out.old out.new }
 {
     let answer = frame_write::write(f, frame);
-    columns::with_bytes(out, answer, frame)
+    columns::with_bytes(out, refusals::number(answer), frame)
 }
 
 // `W sa prec hop count sec frac local tx rx error version length`.
@@ -167,10 +190,9 @@ fn write(form: Form, out: &mut [u8]) -> usize
     requires { longest_answer ≤ length out.old }
     ensures { Prints (write_text (fields_in form) (untouched (size_in form 11))) result out.old out.new }
 {
-    let f = frame_fields(form);
-    let n = value::size(form, 11);
-    let mut frame = [UNTOUCHED; 128];
-    written(f, &mut frame[..n], out)
+    let n = value::size(form, LENGTH_FIELD);
+    let mut frame = [UNTOUCHED; MOST_LENGTH];
+    written(frame_fields(form), &mut frame[..n], out)
 }
 
 // `B a b`.
@@ -181,9 +203,7 @@ fn better(form: Form, out: &mut [u8]) -> usize
 {
     let n = value::size(form, 0);
     let end = n + value::size(form, 1);
-    let bytes = form.bytes;
-    let all = &bytes[..];
-    columns::only_bytes(out, frame_better::better(&all[..n], &all[n..end]))
+    columns::only_bytes(out, frame_better::better(&form.bytes[..n], &form.bytes[n..end]))
 }
 
 // `H hop`.
@@ -195,6 +215,7 @@ fn passes(form: Form, out: &mut [u8]) -> usize
 }
 
 // What is printed for the letter of a plain line, with what its fields say: of a frame's or a hop's, or else of the lines of times.
+#[tactic(auto, unfolding(crate::specs::Frames::plain_text))]
 pub fn asked(letter: u8, form: Form, out: &mut [u8]) -> usize
     requires bytes_len { length form.bytes ≡ buffer_bytes }
     requires longest_answer_in_bounds { longest_answer ≤ length out.old }

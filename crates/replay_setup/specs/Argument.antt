@@ -56,7 +56,7 @@ setting_in f i = record { delay = cond (marked_in f i) Measured (Fixed (number_i
 
 unfoldable pub settings_in : Form → ℕ → List Setting
 settings_in f i =
-    setting_in f i ∷ setting_in f (i + 1) ∷ setting_in f (i + 2) ∷ setting_in f (i + 3)
+    setting_in f (i + 0) ∷ setting_in f (i + 1) ∷ setting_in f (i + 2) ∷ setting_in f (i + 3)
     ∷ setting_in f (i + 4) ∷ setting_in f (i + 5) ∷ setting_in f (i + 6) ∷ setting_in f (i + 7)
     ∷ []
 

@@ -7,11 +7,12 @@ ghost use Rattle.forms.specs.Form.{most_fields};
 ghost use Rattle.forms.specs.Value.{flag_in};
 ghost use Rattle.replay_setup.specs.Argument.{profile_by, setting_in, settings_in, versions_in, setup_from, setup_in};
 
-use bridge::Setup;
+use bridge::{PORTS, Setup};
 use delay::DelaySetting;
 use forms::{Form, value};
 use frame::version::FIRST_VERSION;
 use port::{Profile, Sender, Setting};
+use std::array;
 
 // How many fields behind n the others stand: mac is the next, prec the one after it.
 const CAPABLE: usize = 3;
@@ -48,9 +49,10 @@ fn profile(listener: bool) -> Profile
     ensures { result ≡ profile_by listener }
 {
     if listener {
-        return Profile::Listener;
+        Profile::Listener
+    } else {
+        Profile::Full
     }
-    Profile::Full
 }
 
 // Field i as a port's part of the setup.
@@ -58,70 +60,49 @@ fn setting(form: Form, i: usize) -> Setting
     requires { i < most_fields }
     ensures { result ≡ setting_in form i }
 {
-    if form.marked[i] {
-        return Setting {
-            delay: DelaySetting::Measured,
-        };
-    }
-    Setting {
-        delay: DelaySetting::Fixed(form.numbers[i]),
-    }
+    let delay = if form.marked[i] {
+        DelaySetting::Measured
+    } else {
+        DelaySetting::Fixed(form.numbers[i])
+    };
+    Setting { delay }
 }
 
-// The ports' part of the setup, eight fields from field i on.
+// The ports' part of the setup, one field each from field i on.
 #[tactic(auto, unfolding(crate::specs::Argument::settings_in))]
-fn settings(form: Form, i: usize) -> [Setting; 8]
+fn settings(form: Form, i: usize) -> [Setting; PORTS]
     requires { i ≤ 8 }
     ensures { result ≡ settings_in form i }
 {
-    [
-        setting(form, i),
-        setting(form, i + 1),
-        setting(form, i + 2),
-        setting(form, i + 3),
-        setting(form, i + 4),
-        setting(form, i + 5),
-        setting(form, i + 6),
-        setting(form, i + 7),
-    ]
+    array::from_fn(|port| setting(form, i + port))
 }
 
 // The ports' versions, as V says them.
 #[tactic(auto, unfolding(crate::specs::Argument::versions_in))]
-fn versions(b: [u8; 256]) -> [u8; 8]
-    ensures { result ≡ versions_in b }
+fn versions(b: &[u8; 256]) -> [u8; PORTS]
+    ensures { result ≡ versions_in b.now }
 {
-    [
-        b[VERSIONS],
-        b[VERSIONS + 1],
-        b[VERSIONS + 2],
-        b[VERSIONS + 3],
-        b[VERSIONS + 4],
-        b[VERSIONS + 5],
-        b[VERSIONS + 6],
-        b[VERSIONS + 7],
-    ]
+    array::from_fn(|port| b[VERSIONS + port])
 }
 
 // What Setup is given by the fields from n on, which every line has, with a profile and versions.
 #[tactic(auto, unfolding(crate::specs::Argument::setup_from))]
-fn from(form: Form, n: usize, profile: Profile, versions: [u8; 8]) -> Setup
+fn from(form: Form, n: usize, profile: Profile, versions: [u8; PORTS]) -> Setup
     requires { n ≤ 1 }
     ensures { result ≡ setup_from form n profile versions }
 {
-    let bytes = form.bytes;
     Setup {
         n: value::byte(form, n),
         sender: Sender {
-            profile: profile,
-            mac: replay_frames::mac(bytes),
+            profile,
+            mac: replay_frames::mac(&form.bytes),
             back: value::number_or(form, n + BACK, bridge::default_back()),
         },
-        own: replay_frames::precedence(bytes),
+        own: replay_frames::precedence(&form.bytes),
         capable: flag(form, n + CAPABLE),
         timeout: value::number_or(form, n + TIMEOUT, bridge::default_timeout()),
         settings: settings(form, n + DELAYS),
-        versions: versions,
+        versions,
     }
 }
 
@@ -132,10 +113,9 @@ pub fn given(letter: u8, form: Form) -> Setup
 {
     match letter {
         b'V' => {
-            let bytes = form.bytes;
             let said = profile(flag(form, LISTENER));
-            from(form, BEHIND_LISTENER, said, versions(bytes))
+            from(form, BEHIND_LISTENER, said, versions(&form.bytes))
         }
-        _ => from(form, FIRST, profile(letter == b'P'), [FIRST_VERSION; 8]),
+        _ => from(form, FIRST, profile(letter == b'P'), [FIRST_VERSION; PORTS]),
     }
 }
