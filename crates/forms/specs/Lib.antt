@@ -1,4 +1,3 @@
-pub mod Kind
 pub mod Field
 pub mod Form
 pub mod Value

@@ -1,8 +1,8 @@
 // One field of a line: what its kind wants, and what the field says.
-ghost use Rattle.std.specs.Prelude.{◌≡◌, drop};
-ghost use Rattle.forms.specs.Field.{number_rule, bytes_rule, rule_of, is_mark, are_digits, no_field, bytes_field, field_of, field_at};
+ghost use Rattle.std.specs.Prelude.{◌≡◌, ◌≤◌, length, drop};
+ghost use Rattle.forms.specs.Field.{most_digits, number_rule, bytes_rule, rule_of, is_mark, are_digits, bytes_field, number_field, field_of, field_at};
 
-use crate::kind;
+use crate::kind::Kind;
 use hexadecimal::{digits, search};
 
 const SPACE: u8 = b' ';
@@ -23,29 +23,33 @@ const MOST_LENGTH: u64 = 128;
 
 const MOST_NUMBER: u64 = 18446744073709551615;
 
-// The marks; a space, which no field has, where a kind has none.
+// The marks.
 const DEFAULT: u8 = b'D';
 
 const MEASURED: u8 = b'M';
 
 const NO_BYTES: u8 = b'-';
 
-const NO_MARK: u8 = b' ';
-
-// What a kind wants: its mark, or digits from the fewest to the most, which make bytes or a number up to the greatest.
+// What digits make: a number up to the greatest, or bytes.
 #[derive(Clone, Copy)]
-pub struct Rule {
-    pub mark: u8,
-    pub fewest: usize,
-    pub most: usize,
-    pub bytes: bool,
-    pub greatest: u64,
+pub enum Content {
+    UpTo(u64),
+    WholeBytes,
 }
 
-// What a field says: whether it is of its kind, whether it is the mark, its number, how many bytes and how many characters it has.
+// What a kind wants: its mark, where it has one, or digits from the fewest to the most, and what they make.
+#[derive(Clone, Copy)]
+pub struct Rule {
+    pub mark: Option<u8>,
+    pub fewest: usize,
+    pub most: usize,
+    pub content: Content,
+}
+
+// What a field of its kind says: whether it is the mark, its number, how many bytes and how many characters it has.
+// The mark stands beside the number, since `Form` has both of each field in arrays of their own.
 #[derive(Clone, Copy)]
 pub struct Field {
-    pub good: bool,
     pub marked: bool,
     pub number: u64,
     pub size: usize,
@@ -53,145 +57,133 @@ pub struct Field {
 }
 
 // The rule of a number.
-fn number_rule(mark: u8, most: usize, greatest: u64) -> Rule
+fn number_rule(mark: Option<u8>, most: usize, greatest: u64) -> Rule
     ensures { result ≡ number_rule mark most greatest }
 {
     Rule {
-        mark: mark,
+        mark,
         fewest: 1,
-        most: most,
-        bytes: false,
-        greatest: greatest,
+        most,
+        content: Content::UpTo(greatest),
     }
 }
 
 // The rule of bytes.
-fn bytes_rule(mark: u8, fewest: usize, most: usize) -> Rule
+fn bytes_rule(mark: Option<u8>, fewest: usize, most: usize) -> Rule
     ensures { result ≡ bytes_rule mark fewest most }
 {
     Rule {
-        mark: mark,
-        fewest: fewest,
-        most: most,
-        bytes: true,
-        greatest: 0,
+        mark,
+        fewest,
+        most,
+        content: Content::WholeBytes,
     }
 }
 
 // The rule of each kind.
-fn rule_of(code: u8) -> Rule
-    ensures { result ≡ rule_of code }
+#[tactic(auto, unfolding(crate::specs::Field::rule_of))]
+fn rule_of(kind: Kind) -> Rule
+    ensures { result ≡ rule_of kind }
 {
-    if kind::EXACTLY <= code {
-        let n = (code - kind::EXACTLY) as usize * digits::DIGITS;
-        return bytes_rule(NO_MARK, n, n);
-    }
-    match code {
-        kind::BYTE => number_rule(NO_MARK, MOST_DIGITS, MOST_BYTE),
-        kind::NUMBER_OR_DEFAULT => number_rule(DEFAULT, MOST_DIGITS, MOST_NUMBER),
-        kind::DELAY_OR_MEASURED => number_rule(MEASURED, MOST_DIGITS, MOST_NUMBER),
-        kind::FLAG => number_rule(NO_MARK, FLAG_DIGITS, MOST_FLAG),
-        kind::LENGTH => number_rule(NO_MARK, MOST_DIGITS, MOST_LENGTH),
-        kind::BYTES => bytes_rule(NO_BYTES, digits::DIGITS, MOST_BYTE_DIGITS),
-        _ => number_rule(NO_MARK, MOST_DIGITS, MOST_NUMBER),
+    match kind {
+        Kind::Byte => number_rule(None, MOST_DIGITS, MOST_BYTE),
+        Kind::Number => number_rule(None, MOST_DIGITS, MOST_NUMBER),
+        Kind::NumberOrDefault => number_rule(Some(DEFAULT), MOST_DIGITS, MOST_NUMBER),
+        Kind::DelayOrMeasured => number_rule(Some(MEASURED), MOST_DIGITS, MOST_NUMBER),
+        Kind::Flag => number_rule(None, FLAG_DIGITS, MOST_FLAG),
+        Kind::Length => number_rule(None, MOST_DIGITS, MOST_LENGTH),
+        Kind::Bytes => bytes_rule(Some(NO_BYTES), digits::DIGITS, MOST_BYTE_DIGITS),
+        Kind::Exactly(n) => {
+            let digits = usize::from(n) * digits::DIGITS;
+            bytes_rule(None, digits, digits)
+        }
     }
 }
 
-// Whether a field is this one character.
-fn is_mark(text: &[u8], mark: u8) -> bool
+// Whether a field is its kind's mark.
+#[tactic(auto, unfolding(crate::specs::Field::is_mark))]
+fn is_mark(text: &[u8], mark: Option<u8>) -> bool
     ensures { result ≡ is_mark text.now mark }
 {
-    if text.len() == 1 {
-        return text[0] == mark;
+    match mark {
+        Some(mark) => text.len() == 1 && text[0] == mark,
+        None => false,
     }
-    false
 }
 
 // Whether a field is digits, from the fewest to the most.
+#[tactic(auto, unfolding(crate::specs::Field::are_digits))]
 fn are_digits(text: &[u8], fewest: usize, most: usize) -> bool
     ensures { result ≡ are_digits text.now fewest most }
 {
-    if text.len() < fewest {
-        return false;
-    }
-    if most < text.len() {
-        return false;
-    }
-    digits::all(text)
-}
-
-// A field that is not of its kind.
-fn none() -> Field
-    ensures { result ≡ no_field }
-{
-    Field {
-        good: false,
-        marked: false,
-        number: 0,
-        size: 0,
-        width: 0,
-    }
+    fewest <= text.len() && text.len() <= most && digits::all(text)
 }
 
 // A field of so many digits as bytes, for which there is so much room.
-fn as_bytes(width: usize, room: usize) -> Field
+#[tactic(auto, unfolding(crate::specs::Field::bytes_field))]
+fn as_bytes(width: usize, room: usize) -> Option<Field>
     ensures { result ≡ bytes_field width room }
 {
-    if width % digits::DIGITS != 0 {
-        return none();
-    }
     let size = width / digits::DIGITS;
-    Field {
-        good: size <= room,
+    if width % digits::DIGITS != 0 || room < size {
+        return None;
+    }
+    Some(Field {
         marked: false,
         number: size as u64,
-        size: size,
-        width: width,
-    }
+        size,
+        width,
+    })
 }
 
-// What a field says, by its kind.
-fn of_kind(code: u8, text: &[u8], room: usize) -> Field
-    ensures { result ≡ field_of code room text.now }
+// A field of digits as a number up to the greatest.
+fn as_number(text: &[u8], greatest: u64) -> Option<Field>
+    requires { length text.now ≤ most_digits }
+    ensures { result ≡ number_field greatest text.now }
 {
-    let rule = rule_of(code);
+    let number = digits::number(text);
+    if greatest < number {
+        return None;
+    }
+    Some(Field {
+        marked: false,
+        number,
+        size: 0,
+        width: text.len(),
+    })
+}
+
+// What a field says, by its kind; nothing where it is none of that kind.
+fn of_kind(kind: Kind, text: &[u8], room: usize) -> Option<Field>
+    ensures { result ≡ field_of kind room text.now }
+{
+    let rule = rule_of(kind);
     let width = text.len();
     if is_mark(text, rule.mark) {
-        return Field {
-            good: true,
+        return Some(Field {
             marked: true,
             number: 0,
             size: 0,
-            width: width,
-        };
+            width,
+        });
     }
     if !are_digits(text, rule.fewest, rule.most) {
-        return none();
+        return None;
     }
-    if rule.bytes {
-        return as_bytes(width, room);
-    }
-    let number = digits::number(text);
-    Field {
-        good: number <= rule.greatest,
-        marked: false,
-        number: number,
-        size: 0,
-        width: width,
+    match rule.content {
+        Content::UpTo(greatest) => as_number(text, greatest),
+        Content::WholeBytes => as_bytes(width, room),
     }
 }
 
 // What the field says that follows a space at `from`.
-pub fn at(code: u8, text: &[u8], from: usize, room: usize) -> Field
-    ensures { result ≡ field_at code room (drop from text.now) }
+pub fn at(kind: Kind, text: &[u8], from: usize, room: usize) -> Option<Field>
+    ensures { result ≡ field_at kind room (drop from text.now) }
 {
-    if text.len() <= from {
-        return none();
-    }
-    if text[from] != SPACE {
-        return none();
+    if text.len() <= from || text[from] != SPACE {
+        return None;
     }
     let start = from + 1;
     let end = search::found(text, start, SPACE);
-    of_kind(code, &text[start..end], room)
+    of_kind(kind, &text[start..end], room)
 }

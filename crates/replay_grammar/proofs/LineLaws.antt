@@ -1,5 +1,5 @@
 -- Laws of a line: its letter and its form, and which letters are Setup's.
-use mathlib.Core.Path.{◌≡◌, refl, sym, ap, ◌∙◌}
+use mathlib.Core.Path.{◌≡◌, refl, sym}
 use mathlib.Core.Bool.{Bool, true, false, cond, true≢false}
 use mathlib.Core.List.{List, [], ◌∷◌}
 use mathlib.Core.Logic.{◌⊎◌, inl, inr}
@@ -8,8 +8,9 @@ use native.Mathlib.Omega.{arith}
 use borrow.Author.Tests.{eqb-true, ne_eqb}
 use lib.ListN.{length}
 use lib.Dec.{eqb}
-use Rattle.numbers.proofs.Branches.{if_false, if_when}
-use Rattle.forms.specs.Form.{buffer_bytes, no_form}
+use Rattle.std.proofs.Common.{Some, None}
+use Rattle.numbers.proofs.Branches.{if_false}
+use Rattle.forms.specs.Form.{buffer_bytes}
 use Rattle.forms.proofs.FormTheorem.{form_bytes}
 use Rattle.forms.specs.declared.Form.{Form}
 use Rattle.replay_grammar.specs.Row.{letter_s, letter_p, letter_v, letter_l, letter_o, letter_r, letter_a, letter_t}
@@ -41,19 +42,23 @@ unfolding may_be_line
 line_some [] e = absurd (true≢false (sym e))
 line_some (x ∷ s) e = omega arith
 
--- a text whose form is good has a letter
-pub form_some : (s : List ℕ) {f : Form} → f ≡ form_for s → f.good ≡ true → 0 < length s
+-- a text that has a form has a letter
+pub form_some : (s : List ℕ) {f : Form} → Some f ≡ form_for s → 0 < length s
 unfolding form_for
-form_some s e g = by (may_be_line s) refl (sym (ap (λ (x : Form). x.good) e) ∙ g)
+form_some s e = by (may_be_line s) refl e
   where
-    by : (t : Bool) → may_be_line s ≡ t → (cond t (form_in s) no_form).good ≡ true → 0 < length s
+    by : {f : Form} (t : Bool) → may_be_line s ≡ t → Some f ≡ cond t (form_in s) None → 0 < length s
     by true l n = line_some s l
-    by false l n = absurd (true≢false (sym n))
+    by false l n = absurd (cc)
 
 -- and its bytes are as many as a form has
-pub form_room : (s : List ℕ) {f : Form} → f ≡ form_for s → length f.bytes ≡ buffer_bytes
+pub form_room : (s : List ℕ) {f : Form} → Some f ≡ form_for s → length f.bytes ≡ buffer_bytes
 unfolding form_for
-form_room s e = rw e (if_when (λ (x : Form). length x.bytes ≡ buffer_bytes) (may_be_line s) (λ t. form_bytes _ _ refl) (λ t. refl))
+form_room s e = by (may_be_line s) e
+  where
+    by : {f : Form} (t : Bool) → Some f ≡ cond t (form_in s) None → length f.bytes ≡ buffer_bytes
+    by true n = form_bytes _ _ n
+    by false n = absurd (cc)
 
 -- the letter says whether the line asks
 pub asks_letter : (s : List ℕ) → 0 < length s → asks_by (letter_of s) ≡ asks s

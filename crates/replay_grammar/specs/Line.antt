@@ -1,6 +1,6 @@
 -- A line of replay: its letter, what its fields say, and whether it leaves the state as it is.
-use Rattle.std.specs.Prelude.{ℕ, Bool, true, false, cond, List, length, drop, get_or, leb, eqb}
-use Rattle.forms.specs.Form.{no_form, form_of}
+use Rattle.std.specs.Prelude.{ℕ, Option, None, Bool, true, false, cond, List, length, drop, get_or, leb, eqb}
+use Rattle.forms.specs.Form.{form_of}
 use Rattle.forms.specs.declared.Form.{Form}
 use Rattle.replay_grammar.specs.Row.{letter_s, letter_p, letter_v, letter_l, letter_o, letter_r, letter_a, letter_t, row_of}
 
@@ -17,12 +17,12 @@ may_be_line s = cond (eqb (length s) 0) false (leb (length s) longest_line)
 abbrev pub letter_of : List ℕ → ℕ
 letter_of s = get_or s 0 0
 
-abbrev pub form_in : List ℕ → Form
+abbrev pub form_in : List ℕ → Option Form
 form_in s = form_of (row_of (letter_of s)) (drop 1 s)
 
--- that of a text that may be none
-unfoldable pub form_for : List ℕ → Form
-form_for s = cond (may_be_line s) (form_in s) no_form
+-- that of a text that may be none; nothing where it is none
+unfoldable pub form_for : List ℕ → Option Form
+form_for s = cond (may_be_line s) (form_in s) None
 
 -- no call of this letter changes the state
 unfoldable pub asks_by : ℕ → Bool

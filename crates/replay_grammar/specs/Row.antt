@@ -1,7 +1,7 @@
 -- The letter of each call, and the kinds of the fields that follow it.
-use Rattle.std.specs.Prelude.{ℕ, ◌+◌, cond, List, [], ◌∷◌, ◌++◌, replicate, eqb}
-use Rattle.forms.specs.Kind.{BYTE, NUMBER, NUMBER-OR-DEFAULT, DELAY-OR-MEASURED, FLAG, LENGTH, BYTES, EXACTLY}
-use Rattle.forms.specs.Form.{row}
+use Rattle.std.specs.Prelude.{ℕ, cond, List, [], ◌∷◌, ◌++◌, replicate, eqb}
+use Rattle.forms.specs.declared.kind.Kind.{Kind}
+use Rattle.forms.specs.declared.kind.Kind.TheVariants.{Byte, Number, NumberOrDefault, DelayOrMeasured, Flag, Length, Bytes, Exactly}
 
 -- the letters, in ASCII
 abbrev pub letter_s : ℕ
@@ -74,61 +74,61 @@ abbrev pub letter_z : ℕ
 letter_z = 90
 
 -- just the bytes of an address, of a precedence, of an errorTime, of leap seconds, of a version for each port
-abbrev pub ADDRESS : ℕ
-ADDRESS = EXACTLY + 6
+abbrev pub ADDRESS : Kind
+ADDRESS = Exactly 6
 
-abbrev pub PRECEDENCE : ℕ
-PRECEDENCE = EXACTLY + 13
+abbrev pub PRECEDENCE : Kind
+PRECEDENCE = Exactly 13
 
-abbrev pub ERROR : ℕ
-ERROR = EXACTLY + 4
+abbrev pub ERROR : Kind
+ERROR = Exactly 4
 
-abbrev pub LEAP : ℕ
-LEAP = EXACTLY + 2
+abbrev pub LEAP : Kind
+LEAP = Exactly 2
 
-abbrev pub VERSIONS : ℕ
-VERSIONS = EXACTLY + 8
+abbrev pub VERSIONS : Kind
+VERSIONS = Exactly 8
 
 -- ---- rows
 
 -- of a plain line, one whose call needs no bridge: F, W, B, H, X, I, G, U, N; nothing follows C, nor a letter that no call has
-unfoldable pub plain_row : ℕ → List ℕ
+unfoldable pub plain_row : ℕ → List Kind
 plain_row letter =
-    cond (eqb letter letter_f) (row (BYTES ∷ []))
-    (cond (eqb letter letter_w) (row (ADDRESS ∷ PRECEDENCE ∷ BYTE ∷ BYTE ∷ NUMBER ∷ NUMBER ∷ NUMBER ∷ NUMBER ∷ NUMBER ∷ ERROR ∷ BYTE ∷ LENGTH ∷ []))
-    (cond (eqb letter letter_b) (row (BYTES ∷ BYTES ∷ []))
-    (cond (eqb letter letter_h) (row (BYTE ∷ []))
-    (cond (eqb letter letter_x) (row (NUMBER ∷ NUMBER ∷ []))
-    (cond (eqb letter letter_i) (row (NUMBER ∷ NUMBER ∷ []))
-    (cond (eqb letter letter_g) (row (NUMBER ∷ []))
-    (cond (eqb letter letter_u) (row (NUMBER ∷ LEAP ∷ []))
-    (cond (eqb letter letter_n) (row (NUMBER ∷ LEAP ∷ []))
-    (row [])))))))))
+    cond (eqb letter letter_f) (Bytes ∷ [])
+    (cond (eqb letter letter_w) (ADDRESS ∷ PRECEDENCE ∷ Byte ∷ Byte ∷ Number ∷ Number ∷ Number ∷ Number ∷ Number ∷ ERROR ∷ Byte ∷ Length ∷ [])
+    (cond (eqb letter letter_b) (Bytes ∷ Bytes ∷ [])
+    (cond (eqb letter letter_h) (Byte ∷ [])
+    (cond (eqb letter letter_x) (Number ∷ Number ∷ [])
+    (cond (eqb letter letter_i) (Number ∷ Number ∷ [])
+    (cond (eqb letter letter_g) (Number ∷ [])
+    (cond (eqb letter letter_u) (Number ∷ LEAP ∷ [])
+    (cond (eqb letter letter_n) (Number ∷ LEAP ∷ [])
+    []))))))))
 
 -- what every line of Setup says
-abbrev pub setup_kinds : List ℕ
-setup_kinds = BYTE ∷ ADDRESS ∷ PRECEDENCE ∷ FLAG ∷ NUMBER-OR-DEFAULT ∷ NUMBER-OR-DEFAULT ∷ replicate 8 DELAY-OR-MEASURED
+abbrev pub setup_kinds : List Kind
+setup_kinds = Byte ∷ ADDRESS ∷ PRECEDENCE ∷ Flag ∷ NumberOrDefault ∷ NumberOrDefault ∷ replicate 8 DelayOrMeasured
 
 -- of S and P, which say no more
-abbrev pub setup_row : List ℕ
-setup_row = row setup_kinds
+abbrev pub setup_row : List Kind
+setup_row = setup_kinds
 
 -- of V, which says before it whether it is a listener's, and after it the versions
-abbrev pub whole_setup_row : List ℕ
-whole_setup_row = row (FLAG ∷ (setup_kinds ++ (VERSIONS ∷ [])))
+abbrev pub whole_setup_row : List Kind
+whole_setup_row = Flag ∷ (setup_kinds ++ (VERSIONS ∷ []))
 
 -- the row of each letter
-unfoldable pub row_of : ℕ → List ℕ
+unfoldable pub row_of : ℕ → List Kind
 row_of letter =
     cond (eqb letter letter_s) setup_row
     (cond (eqb letter letter_p) setup_row
     (cond (eqb letter letter_v) whole_setup_row
-    (cond (eqb letter letter_l) (row (BYTE ∷ []))
-    (cond (eqb letter letter_o) (row (BYTE ∷ NUMBER ∷ NUMBER ∷ NUMBER ∷ []))
-    (cond (eqb letter letter_r) (row (BYTE ∷ NUMBER ∷ BYTES ∷ []))
-    (cond (eqb letter letter_a) (row (NUMBER ∷ []))
-    (cond (eqb letter letter_t) (row (BYTE ∷ NUMBER ∷ LENGTH ∷ []))
-    (cond (eqb letter letter_d) (row (BYTE ∷ []))
-    (cond (eqb letter letter_e) (row (NUMBER ∷ []))
-    (cond (eqb letter letter_k) (row (BYTE ∷ []))
+    (cond (eqb letter letter_l) (Byte ∷ [])
+    (cond (eqb letter letter_o) (Byte ∷ Number ∷ Number ∷ Number ∷ [])
+    (cond (eqb letter letter_r) (Byte ∷ Number ∷ Bytes ∷ [])
+    (cond (eqb letter letter_a) (Number ∷ [])
+    (cond (eqb letter letter_t) (Byte ∷ Number ∷ Length ∷ [])
+    (cond (eqb letter letter_d) (Byte ∷ [])
+    (cond (eqb letter letter_e) (Number ∷ [])
+    (cond (eqb letter letter_k) (Byte ∷ [])
     (plain_row letter)))))))))))

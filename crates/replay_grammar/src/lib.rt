@@ -16,19 +16,16 @@ pub const LONGEST_LINE: usize = 515;
 fn may_be_line(text: &[u8]) -> bool
     ensures { result ≡ may_be_line text.now }
 {
-    if text.len() == 0 {
-        return false;
-    }
-    text.len() <= LONGEST_LINE
+    text.len() != 0 && text.len() <= LONGEST_LINE
 }
 
-// What the fields of a text say, which are read here for both kinds of a line; no form where it is no line.
+// What the fields of a text say, which are read here for both kinds of a line; nothing where it is no line.
 #[tactic(auto, unfolding(crate::specs::Line::form_for), using(crate::proofs::LineLaws::line_some))]
-pub fn form(text: &[u8]) -> Form
+pub fn form(text: &[u8]) -> Option<Form>
     ensures { result ≡ form_for text.now }
 {
     if !may_be_line(text) {
-        return forms::none();
+        return None;
     }
     forms::read(rows::row(text[0]), &text[1..])
 }
@@ -42,14 +39,7 @@ pub fn asks(text: &[u8]) -> bool
         return true;
     }
     match text[0] {
-        b'S' => false,
-        b'P' => false,
-        b'V' => false,
-        b'L' => false,
-        b'O' => false,
-        b'R' => false,
-        b'A' => false,
-        b'T' => false,
+        b'S' | b'P' | b'V' | b'L' | b'O' | b'R' | b'A' | b'T' => false,
         _ => true,
     }
 }

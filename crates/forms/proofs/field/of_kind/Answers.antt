@@ -1,4 +1,4 @@
--- The mark, no digits, bytes, or a number.
+-- The mark, no digits, a number, or bytes.
 use mathlib.Core.Path.{sym, ◌∙◌}
 use Rattle.forms.specs.Field.{field_of}
 use Rattle.forms.proofs.FieldLaws.{number_digits}
@@ -11,18 +11,17 @@ returns-then-is_mark c = rw (← c.rule_of-rule.ensures, sym c.is_mark.ensures �
 pub returns-then-not-are_digits : goal.returns-then-not-are_digits
 unfolding field_of
 returns-then-not-are_digits c =
-    rw (← c.rule_of-rule.ensures, sym c.is_mark.ensures ∙ c.if-is_mark.false, sym c.are_digits.ensures ∙ c.if-not-are_digits.true) c.none.ensures
+    rw (← c.rule_of-rule.ensures, sym c.is_mark.ensures ∙ c.if-is_mark.false, sym c.are_digits.ensures ∙ c.if-not-are_digits.true)
 
-pub returns-then-rule : goal.returns-then-rule
+pub as_number-requires : goal.as_number-requires
+as_number-requires c = number_digits _ _ c.rule_of-rule.ensures c.in-UpTo.is (sym c.are_digits.ensures ∙ c.if-not-are_digits.false)
+
+pub returns-in-UpTo : goal.returns-in-UpTo
 unfolding field_of
-returns-then-rule c =
-    rw (← c.rule_of-rule.ensures, sym c.is_mark.ensures ∙ c.if-is_mark.false, sym c.are_digits.ensures ∙ c.if-not-are_digits.false, c.if-rule.true) c.as_bytes.ensures
+returns-in-UpTo c =
+    rw (← c.rule_of-rule.ensures, sym c.is_mark.ensures ∙ c.if-is_mark.false, sym c.are_digits.ensures ∙ c.if-not-are_digits.false, c.in-UpTo.is) c.as_number.ensures
 
-pub number-number-requires : goal.number-number-requires
-number-number-requires c =
-    number_digits _ _ c.rule_of-rule.ensures c.if-rule.false (sym c.are_digits.ensures ∙ c.if-not-are_digits.false)
-
-pub returns : goal.returns
+pub returns-in-WholeBytes : goal.returns-in-WholeBytes
 unfolding field_of
-returns c =
-    rw (← c.rule_of-rule.ensures, sym c.is_mark.ensures ∙ c.if-is_mark.false, sym c.are_digits.ensures ∙ c.if-not-are_digits.false, c.if-rule.false, c.number-number.ensures)
+returns-in-WholeBytes c =
+    rw (← c.rule_of-rule.ensures, sym c.is_mark.ensures ∙ c.if-is_mark.false, sym c.are_digits.ensures ∙ c.if-not-are_digits.false, c.in-WholeBytes.is) c.as_bytes.ensures
