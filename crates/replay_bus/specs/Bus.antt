@@ -1,6 +1,7 @@
 -- The lines of replay over the cycle time of a bus, Y and Z: what a line gives, and what is printed.
-use Rattle.std.specs.Prelude.{ℕ, ◌/◌, ◌%◌, cond, List, [], ◌∷◌, eqb}
-use Rattle.refusals.specs.Refusals.{done, bad_line}
+use Rattle.std.specs.Prelude.{ℕ, ◌/◌, ◌%◌, cond, List, [], ◌∷◌, eqb, Result, Ok, Err}
+use Rattle.refusals.specs.Refusals.{done, bad_line, number_of}
+use Rattle.refusals.specs.declared.Refusal.{Refusal}
 use Rattle.times.specs.declared.GrandTime.{GrandTime}
 use Rattle.hexadecimal.specs.Character.{space, newline}
 use Rattle.hexadecimal.specs.Print.{capital_of}
@@ -10,10 +11,6 @@ use Rattle.forms.specs.declared.Form.{Form}
 use Rattle.replay_grammar.specs.Row.{letter_y, letter_z}
 use Rattle.bus.specs.Bus.{outward_of, inward_of}
 use Rattle.bus.specs.declared.BusTime.{BusTime}
-use Rattle.bus.specs.declared.ToBus.{ToBus}
-use Rattle.bus.specs.declared.ToBus.TheVariants as Outward
-use Rattle.bus.specs.declared.FromBus.{FromBus}
-use Rattle.bus.specs.declared.FromBus.TheVariants as Inward
 
 -- ---- arguments
 
@@ -37,13 +34,13 @@ bus_widths = 1 ∷ 0 ∷ 1 ∷ 0 ∷ 2 ∷ 0 ∷ 0 ∷ 1 ∷ 0 ∷ []
 abbrev pub bus_time_text : BusTime → List ℕ
 bus_time_text t = columns_text bus_widths (done ∷ space ∷ t.seconds ∷ space ∷ t.cycle ∷ space ∷ first_digit t.offset ∷ t.offset ∷ newline ∷ [])
 
-abbrev pub outward_text : ToBus → List ℕ
-outward_text (Outward.At t) = bus_time_text t
-outward_text (Outward.Refused k) = line1 k
+abbrev pub outward_text : Result BusTime Refusal → List ℕ
+outward_text (Ok t) = bus_time_text t
+outward_text (Err refusal) = line1 (number_of refusal)
 
-abbrev pub inward_text : FromBus → List ℕ
-inward_text (Inward.At g) = line_time done g.0 g.1
-inward_text (Inward.Refused k) = line1 k
+abbrev pub inward_text : Result GrandTime Refusal → List ℕ
+inward_text (Ok g) = line_time done g.0 g.1
+inward_text (Err refusal) = line1 (number_of refusal)
 
 -- the letter's call; that the line is bad where no call has the letter
 unfoldable pub bus_text : ℕ → Form → List ℕ

@@ -7,10 +7,11 @@ ghost use Rattle.forms.specs.Form.{number_in};
 ghost use Rattle.columns.specs.Columns.{longest_answer, Prints};
 ghost use Rattle.replay_bus.specs.Bus.{bus_time_in, hint_in, first_digit, bus_time_text, outward_text, inward_text, bus_text};
 
-use bus::{BusTime, FromBus, ToBus};
+use bus::BusTime;
 use columns::{BYTE, CHARACTER, NEWLINE, SPACE};
 use forms::Form;
 use hexadecimal::digits;
+use refusals::Refusal;
 use times::GrandTime;
 
 // The bytes of a cycle.
@@ -39,13 +40,13 @@ fn fields(time: BusTime, out: &mut [u8]) -> usize
             BYTE, CHARACTER, BYTE, CHARACTER, CYCLE, CHARACTER, CHARACTER, BYTE, CHARACTER,
         ],
         &[
-            refusals::DONE as u64,
+            u64::from(refusals::DONE),
             SPACE,
             time.seconds,
             SPACE,
             time.cycle,
             SPACE,
-            first_digit(time.offset) as u64,
+            u64::from(first_digit(time.offset)),
             time.offset,
             NEWLINE,
         ],
@@ -53,47 +54,41 @@ fn fields(time: BusTime, out: &mut [u8]) -> usize
 }
 
 // `Y sec frac`.
-fn outward(form: Form, out: &mut [u8]) -> usize
+fn outward(form: &Form, out: &mut [u8]) -> usize
     requires { longest_answer ≤ length out.old }
-    ensures { Prints (outward_text (outward_of (record { 0 = number_in form 0; 1 = number_in form 1 }))) result out.old out.new }
+    ensures { Prints (outward_text (outward_of (record { 0 = number_in form.now 0; 1 = number_in form.now 1 }))) result out.old out.new }
 {
     match bus_time::outward(GrandTime(form.numbers[0], form.numbers[1])) {
-        ToBus::At(time) => fields(time, out),
-        ToBus::Refused(no) => columns::one(out, no),
-    }
-}
-
-// The bus time of a line.
-fn bus_time_in(form: Form) -> BusTime
-    ensures { result ≡ bus_time_in form }
-{
-    BusTime {
-        seconds: form.numbers[0],
-        cycle: form.numbers[1],
-        offset: form.numbers[2],
+        Ok(time) => fields(time, out),
+        Err(refusal) => columns::one(out, u8::from(refusal)),
     }
 }
 
 // `Z seconds cycle offset sec frac`.
-fn inward(form: Form, out: &mut [u8]) -> usize
+fn inward(form: &Form, out: &mut [u8]) -> usize
     requires { longest_answer ≤ length out.old }
-    ensures { Prints (inward_text (inward_of (bus_time_in form) (hint_in form))) result out.old out.new }
+    ensures { Prints (inward_text (inward_of (bus_time_in form.now) (hint_in form.now))) result out.old out.new }
 {
-    let time = bus_time_in(form);
+    let time = BusTime {
+        seconds: form.numbers[0],
+        cycle: form.numbers[1],
+        offset: form.numbers[2],
+    };
     match bus_time::inward(time, GrandTime(form.numbers[3], form.numbers[4])) {
-        FromBus::At(grand) => columns::with_time(out, refusals::DONE, grand.0, grand.1),
-        FromBus::Refused(no) => columns::one(out, no),
+        Ok(grand) => columns::with_time(out, refusals::DONE, grand.0, grand.1),
+        Err(refusal) => columns::one(out, u8::from(refusal)),
     }
 }
 
 // What is printed for a letter, with what its fields say; that the line is bad where no call has the letter.
+#[tactic(auto, unfolding(crate::specs::Bus::bus_text))]
 pub fn asked(letter: u8, form: Form, out: &mut [u8]) -> usize
     requires { longest_answer ≤ length out.old }
     ensures { Prints (bus_text letter form) result out.old out.new }
 {
     match letter {
-        b'Y' => outward(form, out),
-        b'Z' => inward(form, out),
-        _ => columns::one(out, refusals::BAD_LINE),
+        b'Y' => outward(&form, out),
+        b'Z' => inward(&form, out),
+        _ => columns::one(out, u8::from(Refusal::BadLine)),
     }
 }

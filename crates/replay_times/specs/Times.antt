@@ -1,8 +1,10 @@
 -- The lines of replay over times alone, X, I, G, U and N, for a PTP analyser: what a line gives, and what is printed.
-use Rattle.std.specs.Prelude.{ℕ, cond, List, [], ◌∷◌, eqb, ℤ}
+use Rattle.std.specs.Prelude.{ℕ, cond, List, [], ◌∷◌, eqb, ℤ, Result, Ok, Err}
 use Rattle.std.specs.Int.{w16}
 use Rattle.std.proofs.Common.{to_z}
-use Rattle.refusals.specs.Refusals.{done, bad_line}
+use Rattle.refusals.specs.Refusals.{done, bad_line, number_of}
+use Rattle.refusals.specs.declared.Refusal.{Refusal}
+use Rattle.times.specs.declared.GrandTime.{GrandTime}
 use Rattle.numbers.specs.Bytes.{number_at}
 use Rattle.hexadecimal.specs.Character.{space, newline}
 use Rattle.columns.specs.Columns.{columns_text, line1, line_time}
@@ -13,16 +15,10 @@ use Rattle.ptp.specs.Timestamp.{export_of, import_of}
 use Rattle.ptp.specs.Scale.{gps_of, utc_of, ntp_of}
 use Rattle.ptp.specs.declared.PtpSecond.{PtpSecond}
 use Rattle.ptp.specs.declared.PtpTime.{PtpTime}
-use Rattle.ptp.specs.declared.Exported.{Exported}
-use Rattle.ptp.specs.declared.Exported.TheVariants as Exports
-use Rattle.ptp.specs.declared.Imported.{Imported}
-use Rattle.ptp.specs.declared.Imported.TheVariants as Imports
-use Rattle.ptp.specs.declared.ToGps.{ToGps}
-use Rattle.ptp.specs.declared.ToGps.TheVariants as Gps
-use Rattle.ptp.specs.declared.ToUtc.{ToUtc}
-use Rattle.ptp.specs.declared.ToUtc.TheVariants as Utc
-use Rattle.ptp.specs.declared.ToNtp.{ToNtp}
-use Rattle.ptp.specs.declared.ToNtp.TheVariants as Ntp
+use Rattle.ptp.specs.Demands.{gps_count, utc_count, ntp_count}
+use Rattle.ptp.specs.declared.GpsSecond.{GpsSecond}
+use Rattle.ptp.specs.declared.UtcSecond.{UtcSecond}
+use Rattle.ptp.specs.declared.NtpSecond.{NtpSecond}
 
 -- ---- arguments
 
@@ -40,29 +36,31 @@ leap_in s = to_z w16 (number_at s 0 2)
 abbrev pub timestamp_text : PtpTime → List ℕ
 timestamp_text t = columns_text (1 ∷ 0 ∷ 6 ∷ 0 ∷ 4 ∷ 0 ∷ []) (done ∷ space ∷ t.0.0 ∷ space ∷ t.1 ∷ newline ∷ [])
 
-abbrev pub export_text : Exported → List ℕ
-export_text (Exports.At t) = timestamp_text t
-export_text (Exports.Refused k) = line1 k
+abbrev pub export_text : Result PtpTime Refusal → List ℕ
+export_text (Ok t) = timestamp_text t
+export_text (Err refusal) = line1 (number_of refusal)
 
-abbrev pub import_text : Imported → List ℕ
-import_text (Imports.At g) = line_time done g.0 g.1
-import_text (Imports.Refused k) = line1 k
+abbrev pub import_text : Result GrandTime Refusal → List ℕ
+import_text (Ok g) = line_time done g.0 g.1
+import_text (Err refusal) = line1 (number_of refusal)
 
 -- a second of any scale
 abbrev pub second_text : ℕ → List ℕ
 second_text n = columns_text (1 ∷ 0 ∷ 6 ∷ 0 ∷ []) (done ∷ space ∷ n ∷ newline ∷ [])
 
-abbrev pub gps_text : ToGps → List ℕ
-gps_text (Gps.Second s) = second_text s.0
-gps_text (Gps.Refused k) = line1 k
+-- what a scale answers, by the number of its second
+abbrev pub scale_text : {S : Type 0} → (S → ℕ) → Result S Refusal → List ℕ
+scale_text count (Ok s) = second_text (count s)
+scale_text count (Err refusal) = line1 (number_of refusal)
 
-abbrev pub utc_text : ToUtc → List ℕ
-utc_text (Utc.Second s) = second_text s.0
-utc_text (Utc.Refused k) = line1 k
+abbrev pub gps_text : Result GpsSecond Refusal → List ℕ
+gps_text answer = scale_text gps_count answer
 
-abbrev pub ntp_text : ToNtp → List ℕ
-ntp_text (Ntp.Second s) = second_text s.0
-ntp_text (Ntp.Refused k) = line1 k
+abbrev pub utc_text : Result UtcSecond Refusal → List ℕ
+utc_text answer = scale_text utc_count answer
+
+abbrev pub ntp_text : Result NtpSecond Refusal → List ℕ
+ntp_text answer = scale_text ntp_count answer
 
 -- the letter's call; that the line is bad where no call has the letter
 unfoldable pub times_text : ℕ → Form → List ℕ
