@@ -8,7 +8,7 @@ use bridge::Bridge;
 use choice::Candidate;
 
 // Chosen: the best clock, or none.
-pub fn chosen(b: Bridge) -> Candidate
+pub fn chosen(b: Bridge) -> Option<Candidate>
     requires { Lawful b }
     ensures { ChosenPromise b result }
 {

@@ -8,10 +8,9 @@ use bridge::Bridge;
 use choice::Candidate;
 
 // Ranked: the candidate at a place, 0 the chosen one, 1 the runner-up; or none.
-pub fn ranked(b: Bridge, place: u8) -> Candidate
+pub fn ranked(b: Bridge, place: u8) -> Option<Candidate>
     requires { Lawful b }
     ensures { RankedPromise b place result }
 {
-    let ranking = b.ranking;
-    choice_ranking::candidate_at(&ranking, place as usize)
+    choice_ranking::candidate_at(&b.ranking, usize::from(place))
 }

@@ -6,12 +6,12 @@ use Rattle.bridge_setup.proofs.fresh.Goals as goal
 
 pub returns : goal.returns
 returns c =
-    let s = c.args.s in
-    let ranking = c.alone-ranking.ensures ∙ fresh_alone s in
+    let s = c.args.setup in
+    let ranking = c.alone.ensures ∙ fresh_alone s in
     λ i. record {
       setup = s;
       links = 0;
       ranking = ranking i;
-      clock = c.empty_clock-clock.ensures i;
-      ports = replicate 8 (c.empty-port.ensures i);
+      clock = c.empty_clock.ensures i;
+      ports = replicate 8 (c.empty.ensures i);
     }
