@@ -5,7 +5,7 @@ use mathlib.Core.Bool.{true, false}
 use mathlib.Core.List.{List}
 use Prim.Native.Nat.{ℕ, ◌^◌, ◌<◌, ◌≤◌}
 use native.Mathlib.Omega.{arith}
-use borrow.Author.Tests.{eq-eqb, eqb-false}
+use borrow.Author.Tests.{eq-eqb, ne_eqb, eqb-false}
 use lib.Dec.{eqb, lit<}
 use lib.ListN.{length, get_or}
 use Rattle.refusals.specs.Refusals.{number_of}
@@ -159,7 +159,14 @@ own_reading_is count grand at clock P refuse take = go clock.preceding refl
 
 -- ---- sending
 
--- the stretch whose rest errorTime takes in is within the bounds of backTime
+-- the stretch whose rest errorTime takes in, by the version
+pub stretch_second : (version back : ℕ) → version ≡ second_version → back ≡ stretch_of version back
+stretch_second version back e = if_true _ _ _ (eq-eqb _ _ e)
+
+pub stretch_other : (version back : ℕ) → (version ≡ second_version → ⊥) → 0 ≡ stretch_of version back
+stretch_other version back e = if_false _ _ _ (ne_eqb _ _ e)
+
+-- it is within the bounds of backTime
 pub stretch_small : (version back : ℕ) → back < longest_elapsed → stretch_of version back < longest_elapsed
 stretch_small version back h = if_when (λ (n : ℕ). n < longest_elapsed) (eqb version second_version) (λ _. h) (λ _. lit< tt)
 

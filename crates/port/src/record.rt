@@ -1,4 +1,4 @@
-// Records that are empty, and that lose what is too old; the samples in one.
+// Records that are empty, and that lose what is too old.
 ghost use Rattle.std.specs.Prelude.{◌≡◌, true, cond};
 ghost use Rattle.port.specs.Record.{empty_port, empty_clock, too_old, aged_port};
 
@@ -60,11 +60,4 @@ pub fn aged(port: Port, at: LocalTime, timeout: u64) -> Port
     } else {
         port
     }
-}
-
-// The samples in a record.
-pub fn samples(port: Port) -> Samples
-    ensures { result ≡ port.samples }
-{
-    port.samples
 }
