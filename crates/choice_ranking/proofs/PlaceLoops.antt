@@ -58,11 +58,6 @@ module _ (place : ℕ) (s : List Rank) (whole : Whole s) (h : place < places) wh
   front_length : length (take place s ++ behind) ≡ last_place
   front_length = omega (arith, length-append (take place s) behind, length-take-le place s (omega (arith, whole, h)), length-drop (place + 1) s, whole, h)
 
-  pub closed_length : length (closed_at_of place s) ≡ length s
-  unfolding closed_at_of
-  closed_length =
-      omega (arith, front_length, length-append (take place s) behind, length-append (take place s) (behind ++ (in_numbers None ∷ [])), length-append behind (in_numbers None ∷ []), whole)
-
   -- those behind moved one place up, and then the last place
   pub closing : set (copy_within s (place + 1) (length s) place) last_place (in_numbers None) ≡ closed_at_of place s
   unfolding closed_at_of
@@ -80,7 +75,7 @@ module _ (place : ℕ) (s : List Rank) (whole : Whole s) (h : place < places) wh
 
 -- ---- a rank put in
 
-pub inserted_length : (s : List Rank) (r : Rank) → length (inserted_in r s) ≡ length s
+inserted_length : (s : List Rank) (r : Rank) → length (inserted_in r s) ≡ length s
 unfolding inserted_in
 inserted_length [] r = refl
 inserted_length (x ∷ l) r =

@@ -1,8 +1,9 @@
 // The ranking as it is kept: a rank at each of nine places, the best first, and behind the last clock that of no candidate.
 #![tactic(auto)]
 
-ghost use Rattle.std.specs.Prelude.{◌≡◌, [], ◌<◌, ◌%◌, ◌==◌, position};
+ghost use Rattle.std.specs.Prelude.{◌≡◌, [], ◌<◌, ◌==◌, position};
 ghost use Rattle.choice.specs.Choose.{candidate_of, own_candidate};
+ghost use Rattle.choice.specs.Least.{port_in};
 ghost use Rattle.choice.specs.Ranking.{placed_of};
 ghost use Rattle.choice.specs.Places.{places, places_of, Whole, Kept, closed_at_of, inserted_in, candidate_in, Updates};
 
@@ -43,7 +44,7 @@ pub fn candidate_at(ranking: &[Rank; 9], place: usize) -> Option<Candidate>
 
 // The place of the clock with a number, where one has it.
 fn place_of(ranking: &[Rank; 9], number: u8) -> Option<usize>
-    ensures { result ≡ position (λ rank. rank.1 % 256 == number) ranking.now }
+    ensures { result ≡ position (λ rank. port_in rank.1 == number) ranking.now }
 {
     ranking
         .iter()
