@@ -1,14 +1,14 @@
 -- How a run goes on: after a read and the writes of its answers, and within the bytes of a read.
-use Rattle.std.specs.Prelude.{Bool, true, false, ℕ, zero, suc, ℤ, pos, negsuc}
+use Rattle.std.specs.Prelude.{Bool, true, false, ℕ, zero, suc, Option, Some, None}
 use Rattle.stdio_course.specs.declared.Course.{Course}
 use Rattle.stdio_course.specs.declared.Course.TheVariants.{On, Ended, InputLost, OutputLost}
 
 -- after a read, its answers being written or not: a lost output stops the run, and so does a read that failed; a read of no bytes is the end of the input, and one of any other number is not
-abbrev pub course_after : ℤ → Bool → Course
+abbrev pub course_after : Option ℕ → Bool → Course
 course_after got false = OutputLost
-course_after (negsuc k) true = InputLost
-course_after (pos zero) true = Ended
-course_after (pos (suc n)) true = On
+course_after None true = InputLost
+course_after (Some zero) true = Ended
+course_after (Some (suc n)) true = On
 
 -- whether it reads on
 abbrev pub reads_on : Course → Bool
