@@ -203,7 +203,10 @@ fn better(form: Form, out: &mut [u8]) -> usize
 {
     let n = value::size(form, 0);
     let end = n + value::size(form, 1);
-    columns::only_bytes(out, frame_better::better(&form.bytes[..n], &form.bytes[n..end]))
+    columns::only_bytes(
+        out,
+        frame_better::better(&form.bytes[..n], &form.bytes[n..end]),
+    )
 }
 
 // `H hop`.
