@@ -15,6 +15,8 @@ use Rattle.hexadecimal.specs.Search.{up_to, found_at}
 use Rattle.answer.specs.Answer.{Answer, refused_line}
 use Rattle.capture.specs.Capture.{listed_as}
 use Rattle.replay_grammar.specs.Line.{longest_line}
+use Rattle.session_programs.specs.declared.Program.{Program}
+use Rattle.session_programs.specs.declared.Program.TheVariants.{Listing, Replay, Stamps}
 use Rattle.session_programs.specs.Programs.{answer_by, asks_by}
 use Rattle.session.specs.Lines.{kept_bytes, part, Fed, left, saying, ended, fed_of, kept_text}
 use Rattle.hexadecimal.specs.Character.{newline}
@@ -80,7 +82,7 @@ until_newline s = up_to newline s
 abbrev pub answered : Answer → Fed
 answered a = ended a.next a.text
 
-module _ (p : ℕ) where
+module _ (p : Program) where
   -- ---- one part of the bytes after the other
 
   -- what holds of both ways on holds whichever is taken
@@ -165,15 +167,15 @@ module _ (p : ℕ) where
   -- ---- a line that is too long
 
   -- is answered as bad by each program
-  abbrev bad_by : ℕ → Bridge → Answer
-  bad_by zero b = listed_as b badNumber
-  bad_by (suc zero) b = refused_line b
-  bad_by (suc (suc p)) b = listed_as b badNumber
+  abbrev bad_by : Program → Bridge → Answer
+  bad_by Listing b = listed_as b badNumber
+  bad_by Replay b = refused_line b
+  bad_by Stamps b = listed_as b badNumber
 
-  long_answer : (p : ℕ) (b : Bridge) (s : List ℕ) → longest_line < length s → bad_by p b ≡ answer_by p b s
-  long_answer zero b s h = listed_long b s (omega arith)
-  long_answer (suc zero) b s h = answer_long b s h
-  long_answer (suc (suc p)) b s h = listed_long b s (omega arith) ∙ latch_long b s (omega arith)
+  long_answer : (p : Program) (b : Bridge) (s : List ℕ) → longest_line < length s → bad_by p b ≡ answer_by p b s
+  long_answer Listing b s h = listed_long b s (omega arith)
+  long_answer Replay b s h = answer_long b s h
+  long_answer Stamps b s h = listed_long b s (omega arith) ∙ latch_long b s (omega arith)
 
   -- so what is kept of a line is answered as the whole line is
   pub kept_answers : (b : Bridge) (line : List ℕ) → answer_by p b (take kept_bytes line) ≡ answer_by p b line
@@ -189,7 +191,7 @@ module _ (p : ℕ) where
 -- ---- the programs by their numbers
 
 -- no program's line that asks changes the state
-pub asked_stays : (p : ℕ) (b : Bridge) (s : List ℕ) → asks_by p s ≡ true → (answer_by p b s).next ≡ b
-asked_stays zero b s e = absurd (true≢false (sym e))
-asked_stays (suc zero) b s e = asks_stays b s e
-asked_stays (suc (suc p)) b s e = latch_stays b s e
+pub asked_stays : (p : Program) (b : Bridge) (s : List ℕ) → asks_by p s ≡ true → (answer_by p b s).next ≡ b
+asked_stays Listing b s e = absurd (true≢false (sym e))
+asked_stays Replay b s e = asks_stays b s e
+asked_stays Stamps b s e = latch_stays b s e

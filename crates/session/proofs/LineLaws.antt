@@ -15,6 +15,7 @@ use Rattle.bridge.specs.State.{Lawful}
 use Rattle.bridge.specs.declared.Bridge.{Bridge}
 use Rattle.columns.specs.Columns.{longest_answer, Prints}
 use Rattle.answer.specs.Answer.{Answer}
+use Rattle.session_programs.specs.declared.Program.{Program}
 use Rattle.session_programs.specs.Programs.{answer_by}
 use Rattle.session.specs.Lines.{part, line_end, Fed, saying, ended, fed_of, shown_of, Ends}
 use Rattle.session.proofs.FedLaws.{printed, answered, line_fed, more_fed}
@@ -77,7 +78,7 @@ Stands kept bytes from held n start = ((held ≡ length kept) × (n ≡ 0) × (s
 pub next_after : (kept bytes : List ℕ) (from held n start : ℕ) → Stands kept bytes from held n start → line_end bytes from < line_end bytes start + 1
 next_after kept bytes from held n start w = ⊎_elim (λ x. omega (arith, ap (line_end bytes) x.2)) (λ x. omega (arith, x.1)) w
 
-module _ (p : ℕ) (b : Bridge) (kept bytes : List ℕ) (from : ℕ) where
+module _ (p : Program) (b : Bridge) (kept bytes : List ℕ) (from : ℕ) where
   -- where the kept line ends
   abbrev first : ℕ
   first = line_end bytes from

@@ -8,6 +8,7 @@ use lib.ListN.{length, take, length-take}
 use lib.Seq.{take_all, take-take}
 use Rattle.bridge.specs.declared.Bridge.{Bridge}
 use Rattle.answer.specs.Answer.{Answer}
+use Rattle.session_programs.specs.declared.Program.{Program}
 use Rattle.session_programs.specs.Programs.{answer_by}
 use Rattle.session.specs.Lines.{kept_bytes, part, Fed, saying, fed_of}
 use Rattle.session.specs.Session.{line_of, Ready, Leaves, Turned}
@@ -21,7 +22,7 @@ abbrev Same : Fed → Fed → Type 0
 Same f g = (f.next ≡ g.next) × (take kept_bytes f.line ≡ take kept_bytes g.line) × (f.text ≡ g.text)
 
 -- lines of which the same is kept lead to the same
-kept_leads : (p : ℕ) (s l m : List ℕ) (b : Bridge) → take kept_bytes l ≡ take kept_bytes m → Same (fed_of p b l s) (fed_of p b m s)
+kept_leads : (p : Program) (s l m : List ℕ) (b : Bridge) → take kept_bytes l ≡ take kept_bytes m → Same (fed_of p b l s) (fed_of p b m s)
 unfolding fed_of
 kept_leads p [] l m b e = (refl, e, refl)
 kept_leads p (c ∷ s) l m b e =
@@ -33,7 +34,7 @@ kept_leads p (c ∷ s) l m b e =
     (ap (λ (x : Fed). x.next) same, ap (λ (x : Fed). take kept_bytes x.line) same, ap (λ (x : Fed). x.text) same)
     (kept_leads p s (l ++ one) (m ++ one) b more) (eqb c newline)
 
-pub two_reads : (p : ℕ) (b : Bridge) (line s t t₁ t₂ : List ℕ) (s₁ s₂ : Session)
+pub two_reads : (p : Program) (b : Bridge) (line s t t₁ t₂ : List ℕ) (s₁ s₂ : Session)
     → Leaves (fed_of p b line s) s₁ → t₁ ≡ (fed_of p b line s).text
     → Leaves (fed_of p s₁.bridge (line_of s₁) t) s₂ → t₂ ≡ (fed_of p s₁.bridge (line_of s₁) t).text
     → Leaves (fed_of p b line (s ++ t)) s₂ × (t₁ ++ t₂ ≡ (fed_of p b line (s ++ t)).text)
@@ -47,13 +48,13 @@ two_reads p b line s t t₁ t₂ s₁ s₂ h e₁ k e₂ =
     )
 
 -- a session that is ready is what no bytes leave of it
-pub ready_leaves : (p : ℕ) (s : Session) → Ready s → Leaves (fed_of p s.bridge (line_of s) []) s
+pub ready_leaves : (p : Program) (s : Session) → Ready s → Leaves (fed_of p s.bridge (line_of s) []) s
 unfolding fed_of
 ready_leaves p s r = record { next = refl; line = sym (take_all kept_bytes (line_of s) (rw (length-take s.len s.text) (omega (arith, r.short)))) }
 
 -- ---- turn by turn
 
-module _ (p : ℕ) (s : Session) (bytes : List ℕ) where
+module _ (p : Program) (s : Session) (bytes : List ℕ) where
   -- what the bytes before a place lead to
   abbrev before : ℕ → Fed
   before n = fed_of p s.bridge (line_of s) (part bytes 0 n)

@@ -12,9 +12,10 @@ ghost use Rattle.session.specs.Session.{line_of, Ready, Turned};
 use crate::lines::{NEWLINE, kept, whole_lines};
 use bridge::Bridge;
 use hexadecimal::search;
-use session_programs::first_bridge;
+use session_programs::{Program, first_bridge};
 
 // What is kept from read to read: the bridge, and the line as far as it is read.
+// The line is an array with a length beside it, since memory is fixed: no heap is a rule of the project.
 #[derive(Clone, Copy)]
 pub struct Session {
     pub bridge: Bridge,
@@ -31,7 +32,7 @@ pub struct Progress {
 }
 
 // A program's session before the first line.
-pub fn start(program: u8) -> Session
+pub fn start(program: Program) -> Session
     ensures ready { Ready result }
     ensures bridge_value { result.bridge ≡ start_by program }
     ensures result_value { line_of result ≡ [] }
@@ -44,44 +45,39 @@ pub fn start(program: u8) -> Session
 }
 
 // Answers lines that end in the bytes from `from` on, as long as the output has room; where none ends, keeps the start of one.
-pub fn turn(program: u8, s: Session, bytes: &[u8], from: usize, out: &mut [u8]) -> Progress
+pub fn turn(program: Program, s: Session, bytes: &[u8], from: usize, out: &mut [u8]) -> Progress
     requires ready { Ready s }
     requires from_in_bounds { (from ≤ length bytes.now) × (longest_answer ≤ length out.old) }
     ensures { Turned program s bytes.now from result out.new }
 {
-    let b = s.bridge;
     let mut text = s.text;
     let end = search::found(bytes, from, NEWLINE);
     let len = kept(&mut text, s.len, &bytes[from..end]);
     if end == bytes.len() {
-        let session = Session {
-            bridge: b,
-            text: text,
-            len: len,
-        };
         return Progress {
-            session: session,
+            session: Session {
+                bridge: s.bridge,
+                text,
+                len,
+            },
             filled: 0,
             rest: end,
         };
     }
-    let lines = whole_lines(program, b, &text[..len], bytes, from, out);
-    let next = lines.next;
-    let left: usize = 0;
-    let session = Session {
-        bridge: next,
-        text: text,
-        len: left,
-    };
+    let lines = whole_lines(program, s.bridge, &text[..len], bytes, from, out);
     Progress {
-        session: session,
+        session: Session {
+            bridge: lines.next,
+            text,
+            len: 0,
+        },
         filled: lines.filled,
         rest: lines.rest,
     }
 }
 
 // Answers what is left of a line at the end of the input; an empty rest is no line. How much of the output is filled.
-pub fn at_end(program: u8, s: Session, out: &mut [u8]) -> usize
+pub fn at_end(program: Program, s: Session, out: &mut [u8]) -> usize
     requires ready { Ready s }
     requires longest_answer_in_bounds { longest_answer ≤ length out.old }
     ensures upper_bound { result ≤ length out.new }
@@ -90,6 +86,5 @@ pub fn at_end(program: u8, s: Session, out: &mut [u8]) -> usize
     if s.len == 0 {
         return 0;
     }
-    let end = turn(program, s, b"\n", 0, out);
-    end.filled
+    turn(program, s, b"\n", 0, out).filled
 }

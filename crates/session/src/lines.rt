@@ -7,7 +7,7 @@ ghost use Rattle.session.specs.Lines.{kept_bytes, part, line_end, ended, fed_of,
 use bridge::Bridge;
 use columns::LONGEST_ANSWER;
 use hexadecimal::search;
-use session_programs::{answer_line, asked, asks};
+use session_programs::{Program, answer_line, asked, asks};
 
 // What ends a line.
 pub const NEWLINE: u8 = b'\n';
@@ -30,29 +30,21 @@ pub fn kept(text: &mut [u8; 516], len: usize, more: &[u8]) -> usize
     ensures text_after { take result text.new ≡ kept_text (take len text.old) more.now }
     ensures text_len { length text.new ≡ kept_bytes }
 {
-    let mut n = len;
-    let mut i: usize = 0;
-    while n < KEPT && i < more.len() {
-        text[n] = more[i];
-        n += 1;
-        i += 1;
-    }
-    n
+    let n = more.len().min(KEPT - len);
+    text[len..len + n].copy_from_slice(&more[..n]);
+    len + n
 }
 
 // The line that is held, or where nothing is, the one of the bytes.
 fn line<'a>(held: &'a [u8], fresh: &'a [u8]) -> &'a [u8]
     ensures { result.now ≡ shown_of held.now fresh.now }
 {
-    if held.len() == 0 {
-        return fresh;
-    }
-    held
+    if held.is_empty() { fresh } else { held }
 }
 
 // Answers the line that ends in the bytes from `from` on, of which `first` is kept, and those after it as long as the output has room for one more answer.
 pub fn whole_lines<'a>(
-    program: u8,
+    program: Program,
     b: Bridge,
     first: &'a [u8],
     bytes: &'a [u8],

@@ -1,4 +1,4 @@
-// The programs: what answers a line, by the number of the program.
+// The programs: what answers a line, by the program.
 #![tactic(auto)]
 
 ghost use Rattle.std.specs.Prelude.{◌≡◌, true, false, ◌≤◌, length};
@@ -10,59 +10,59 @@ ghost use Rattle.session_programs.specs.Programs.{answer_by, asks_by, start_by};
 use answer::Answered;
 use bridge::Bridge;
 
-// What answers the lines: the number of each program. A number that `main` names is known where a line is answered, so the other programs' lines are left out there.
-pub const LISTING: u8 = 0;
-
-pub const REPLAY: u8 = 1;
-
-pub const STAMPS: u8 = 2;
+// The programs. `main` names one, so that where a line is answered the other programs' lines are left out.
+#[derive(Clone, Copy, Debug, PartialEq, Eq)]
+pub enum Program {
+    Listing,
+    Replay,
+    Stamps,
+}
 
 // A program's bridge before the first line.
-pub fn first_bridge(program: u8) -> Bridge
+pub fn first_bridge(program: Program) -> Bridge
     ensures value { result ≡ start_by program }
     ensures lawful { Lawful result }
 {
     match program {
-        LISTING => capture::start(),
-        REPLAY => replay_lines::start(),
-        _ => capture::start(),
+        Program::Listing | Program::Stamps => capture::start(),
+        Program::Replay => replay_lines::start(),
     }
 }
 
 // Whether a line leaves the state as it is.
-pub fn asks(program: u8, text: &[u8]) -> bool
+pub fn asks(program: Program, text: &[u8]) -> bool
     ensures { result ≡ asks_by program text.now }
 {
     match program {
-        LISTING => false,
-        REPLAY => replay_grammar::asks(text),
-        _ => latch::asks(text),
+        Program::Listing => false,
+        Program::Replay => replay_grammar::asks(text),
+        Program::Stamps => latch::asks(text),
     }
 }
 
 // What the program prints in out for a line that asks; the listing has none.
-pub fn asked(program: u8, b: Bridge, text: &[u8], out: &mut [u8]) -> usize
+pub fn asked(program: Program, b: Bridge, text: &[u8], out: &mut [u8]) -> usize
     requires lawful { Lawful b }
     requires text_value { asks_by program text.now ≡ true }
     requires longest_answer_in_bounds { longest_answer ≤ length out.old }
     ensures { Prints (answer_by program b text.now).text result out.old out.new }
 {
     match program {
-        REPLAY => replay_lines::asked_line(b, text, out),
-        _ => latch::asked_line(b, text, out),
+        Program::Listing => unreachable!(),
+        Program::Replay => replay_lines::asked_line(b, text, out),
+        Program::Stamps => latch::asked_line(b, text, out),
     }
 }
 
 // The state after a line that does not ask, and what the program prints for it in out.
-pub fn answer_line(program: u8, b: Bridge, text: &[u8], out: &mut [u8]) -> Answered
+pub fn answer_line(program: Program, b: Bridge, text: &[u8], out: &mut [u8]) -> Answered
     requires lawful { Lawful b }
     requires text_value { asks_by program text.now ≡ false }
     requires longest_answer_in_bounds { longest_answer ≤ length out.old }
     ensures { Says (answer_by program b text.now) result out.old out.new }
 {
     match program {
-        LISTING => capture::answer_line(b, text, out),
-        REPLAY => replay_lines::answer_line(b, text, out),
-        _ => capture::answer_line(b, text, out),
+        Program::Listing | Program::Stamps => capture::answer_line(b, text, out),
+        Program::Replay => replay_lines::answer_line(b, text, out),
     }
 }

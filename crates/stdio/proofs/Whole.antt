@@ -4,11 +4,12 @@ use mathlib.Core.Bool.{Bool, true, false, true≢false}
 use mathlib.Core.Logic.{◌⊎◌, ⊎_elim}
 use mathlib.Core.List.{List, [], ◌++◌}
 use Prim.Native.Nat.{ℕ, zero, suc}
-use lib.IntN.{ℤ, pos, negsuc}
 use lib.ListN.{take}
-use Rattle.std.specs.Prelude.{Option}
+use Rattle.std.proofs.Common.{Option, Some, None, is_some}
+use Rattle.std.specs.Prelude.{IfSome}
 use Rattle.std.specs.Io.KnownBytes.{Appends, Consumes, IsAtEnd}
 use Rattle.std.proofs.KnownBytes.{Appends-nil, Appends-trans, Consumes-nil, Consumes-trans, Consumes-whole}
+use Rattle.session_programs.specs.declared.Program.{Program}
 use Rattle.session_programs.specs.Programs.{start_by}
 use Rattle.session.specs.declared.Session.{Session}
 use Rattle.session.specs.Lines.{fed_of}
@@ -45,14 +46,14 @@ pub was_ended : (r course : Course) → (r ≡ course) ⊎ (r ≡ OutputLost) �
 was_ended r course w e = ⊎_elim (λ h. sym h ∙ e) (λ h. absurd (true≢false (ap going (sym e ∙ h)))) w
 
 -- a read that ends the input gives no bytes
-ended_none : (m : ℕ) → course_after (pos m) true ≡ Ended → m ≡ 0
+ended_none : (m : ℕ) → course_after (Some m) true ≡ Ended → m ≡ 0
 ended_none zero e = refl
 ended_none (suc m) e = absurd (on_not_ended e)
 
 -- ---- what was read
 
 -- the bytes that were read, the session that they lead to, and what they print, which is what was written; after a read that ends the input there are no others
-pub record Told (p : ℕ) (s₀ : Session) (had held : Option (List ℕ)) (course : Course) (s : Session) (has holds : Option (List ℕ)) : Type 0 where
+pub record Told (p : Program) (s₀ : Session) (had held : Option (List ℕ)) (course : Course) (s : Session) (has holds : Option (List ℕ)) : Type 0 where
   pub done : List ℕ
   pub read : Consumes had has done
   pub leaves : Leaves (fed_of p s₀.bridge (line_of s₀) done) s
@@ -60,7 +61,7 @@ pub record Told (p : ℕ) (s₀ : Session) (had held : Option (List ℕ)) (cours
   pub at_end : course ≡ Ended → IsAtEnd has
 
 -- before the first read
-pub told_none : (p : ℕ) (s : Session) (had held : Option (List ℕ)) → Ready s → Told p s had held On s had held
+pub told_none : (p : Program) (s : Session) (had held : Option (List ℕ)) → Ready s → Told p s had held On s had held
 unfolding fed_of
 told_none p s had held r = record {
   done = [];
@@ -70,25 +71,26 @@ told_none p s had held r = record {
   at_end = λ e. absurd (on_not_ended e);
 }
 
--- one read more
-pub told_more : (p : ℕ) (s₀ : Session) (had held : Option (List ℕ)) (s : Session) (has holds : Option (List ℕ)) (got : ℤ) (n : ℕ) (whole : Bool) (bytes : List ℕ) (s₁ : Session) (has₁ holds₁ : Option (List ℕ))
-    → Told p s₀ had held On s has holds → Gave got n has has₁ bytes
-    → (whole ≡ true → Leaves (fed_of p s.bridge (line_of s) (take n bytes)) s₁)
-    → (whole ≡ true → Appends holds holds₁ (fed_of p s.bridge (line_of s) (take n bytes)).text)
-    → going (course_after got whole) ≡ true → Told p s₀ had held (course_after got whole) s₁ has₁ holds₁
-told_more p s₀ had held s has holds got n false bytes s₁ has₁ holds₁ t g l w e = absurd (true≢false (sym e))
-told_more p s₀ had held s has holds (negsuc k) n true bytes s₁ has₁ holds₁ t g l w e = absurd (true≢false (sym e))
-told_more p s₀ had held s has holds (pos m) n true bytes s₁ has₁ holds₁ t g l w e =
-    let both = two_reads p s₀.bridge (line_of s₀) t.done (take n bytes) _ _ s s₁ t.leaves refl (l refl) refl in record {
-      done = t.done ++ take n bytes;
-      read = Consumes-trans _ _ _ _ _ t.read g.1;
+-- one read more, what it gave being answered, or its output lost
+pub told_more : (p : Program) (s₀ : Session) (had held : Option (List ℕ)) (s : Session) (has holds : Option (List ℕ)) (got : Option ℕ) (left : Option Session) (bytes fed : List ℕ) (s₁ : Session) (has₁ holds₁ : Option (List ℕ))
+    → Told p s₀ had held On s has holds → Gave got has has₁ bytes → IfSome got (λ n. fed ≡ take n bytes) → IfSome left (λ x. s₁ ≡ x)
+    → IfSome left (λ x. Leaves (fed_of p s.bridge (line_of s) fed) x)
+    → IfSome left (λ x. Appends holds holds₁ (fed_of p s.bridge (line_of s) fed).text)
+    → going (course_after got (is_some left)) ≡ true → Told p s₀ had held (course_after got (is_some left)) s₁ has₁ holds₁
+told_more p s₀ had held s has holds got None bytes fed s₁ has₁ holds₁ t g f n l w e = absurd (true≢false (sym e))
+told_more p s₀ had held s has holds None (Some x) bytes fed s₁ has₁ holds₁ t g f n l w e = absurd (true≢false (sym e))
+told_more p s₀ had held s has holds (Some m) (Some x) bytes fed s₁ has₁ holds₁ t g f n l w e =
+    let leaves : Leaves (fed_of p s.bridge (line_of s) fed) s₁ = rw n l in
+    let both = two_reads p s₀.bridge (line_of s₀) t.done fed _ _ s s₁ t.leaves refl leaves refl in record {
+      done = t.done ++ fed;
+      read = Consumes-trans _ _ _ _ _ t.read (rw f g.0);
       leaves = both.0;
-      wrote = subst (λ (x : List ℕ). Appends held holds₁ x) both.1 (Appends-trans _ _ _ _ _ t.wrote (w refl));
-      at_end = λ h. g.2 (sym g.0 ∙ ended_none m h);
+      wrote = subst (λ (x : List ℕ). Appends held holds₁ x) both.1 (Appends-trans _ _ _ _ _ t.wrote w);
+      at_end = λ h. g.1 (ended_none m h);
     }
 
 -- at the end of the input, with what is left of a line: the whole of it is answered
-pub told_whole : (p : ℕ) (s₀ : Session) (had held : Option (List ℕ)) (s : Session) (has holds holds₁ : Option (List ℕ)) → s₀.bridge ≡ start_by p → line_of s₀ ≡ []
+pub told_whole : (p : Program) (s₀ : Session) (had held : Option (List ℕ)) (s : Session) (has holds holds₁ : Option (List ℕ)) → s₀.bridge ≡ start_by p → line_of s₀ ≡ []
     → Told p s₀ had held Ended s has holds → Appends holds holds₁ (rest_text p s.bridge (line_of s)) → Answered p had held holds₁
 told_whole p s₀ had held s has holds holds₁ first none t w =
     let f = fed_of p s₀.bridge (line_of s₀) t.done in

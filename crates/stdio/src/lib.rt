@@ -1,8 +1,7 @@
 // A program over an input and an output: lines to the end of the input, and their answers.
 #![tactic(auto)]
 
-ghost use Rattle.std.specs.Prelude.{◌≡◌, true, ◌⊎◌, ◌^◌, ◌<◌, ◌≤◌, length, FitsSigned};
-ghost use Rattle.std.specs.Int.{w64};
+ghost use Rattle.std.specs.Prelude.{◌≡◌, true, ◌⊎◌, ◌<◌, ◌≤◌, length, IfSome};
 ghost use Rattle.std.specs.Io.KnownBytes.{Appends};
 ghost use Rattle.columns.specs.Columns.{longest_answer};
 ghost use Rattle.session.specs.Lines.{fed_of};
@@ -12,26 +11,13 @@ ghost use Rattle.stdio_course.specs.declared.Course.TheVariants.{Ended, OutputLo
 ghost use Rattle.stdio.specs.Run.{Stopped, Gave, Answered};
 
 use session::Session;
+use session_programs::Program;
 use std::io::{Read, Write};
 use std::process::ExitCode;
 use stdio_course::Course;
 
 // How many bytes are read or written at once.
 const BUFFER: usize = 65536;
-
-// What the answers to a read leave: the session, and whether all of them were written.
-#[derive(Clone, Copy)]
-struct Written {
-    session: Session,
-    whole: bool,
-}
-
-// What a read answered, a number below zero where it failed, and how many bytes it gave.
-#[derive(Clone, Copy)]
-struct Taken {
-    got: isize,
-    n: usize,
-}
 
 // A run that has stopped: how it went, and how many reads it made.
 #[derive(Clone, Copy)]
@@ -40,20 +26,15 @@ pub struct Ending {
     pub reads: u64,
 }
 
-// Reads some bytes.
-fn read_some<R: Read>(input: &mut R, bytes: &mut [u8]) -> Taken
-    requires room { 0 < length bytes.old }
-    requires room_in_bounds { length bytes.old < 2 ^ 63 }
-    ensures fits { FitsSigned w64 result.got }
-    ensures inside { result.n ≤ length bytes.new }
-    ensures gave { Gave result.got result.n (R.remaining input.old) (R.remaining input.new) bytes.new }
+// Reads some bytes; how many, or nothing where the read failed.
+fn read_some<R: Read>(input: &mut R, bytes: &mut [u8]) -> Option<usize>
+    requires { 0 < length bytes.old }
+    ensures inside { IfSome result (λ n. n ≤ length bytes.new) }
+    ensures gave { Gave result (R.remaining input.old) (R.remaining input.new) bytes.new }
 {
     match input.read(bytes) {
-        Ok(n) => Taken {
-            got: n as isize,
-            n: n,
-        },
-        Err(_) => Taken { got: -1, n: 0 },
+        Ok(n) => Some(n),
+        Err(_) => None,
     }
 }
 
@@ -61,46 +42,39 @@ fn read_some<R: Read>(input: &mut R, bytes: &mut [u8]) -> Taken
 fn put<W: Write>(output: &mut W, bytes: &[u8]) -> bool
     ensures { result ≡ true → Appends (W.contents output.old) (W.contents output.new) bytes.now }
 {
-    match output.write_all(bytes) {
-        Ok(()) => true,
-        Err(_) => false,
-    }
+    output.write_all(bytes).is_ok()
 }
 
-// Answers what a read gave, and writes the answers; a lost output is the last.
+// Answers what a read gave, and writes the answers; the session that is left, or none where the output was lost, which is the last.
 fn answered<W: Write>(
-    program: u8,
+    program: Program,
     s: Session,
     bytes: &[u8],
     out: &mut [u8],
     output: &mut W,
-) -> Written
+) -> Option<Session>
     requires ready { Ready s }
     requires longest_answer_in_bounds { longest_answer ≤ length out.old }
-    ensures ready_2 { Ready result.session }
-    ensures leaves { result.whole ≡ true → Leaves (fed_of program s.bridge (line_of s) bytes.now) result.session }
-    ensures writes { result.whole ≡ true →
-        Appends (W.contents output.old) (W.contents output.new) (fed_of program s.bridge (line_of s) bytes.now).text }
+    ensures ready_2 { IfSome result (λ left. Ready left) }
+    ensures leaves { IfSome result (λ left. Leaves (fed_of program s.bridge (line_of s) bytes.now) left) }
+    ensures writes { IfSome result (λ left.
+        Appends (W.contents output.old) (W.contents output.new) (fed_of program s.bridge (line_of s) bytes.now).text) }
 {
     let mut left = s;
-    let mut from: usize = 0;
+    let mut from = 0;
     let mut wrote = true;
     while from < bytes.len() {
         let turn = session::turn(program, left, bytes, from, out);
-        let filled = turn.filled;
-        wrote = put(output, &out[..filled]);
+        wrote = put(output, &out[..turn.filled]);
         left = turn.session;
         from = stdio_course::onward(wrote, turn.rest, bytes.len());
     }
-    Written {
-        session: left,
-        whole: wrote,
-    }
+    if wrote { Some(left) } else { None }
 }
 
 // At the end of the input, answers what is left of a line and writes the answer; how the run went then.
 fn closed<W: Write>(
-    program: u8,
+    program: Program,
     s: Session,
     course: Course,
     out: &mut [u8],
@@ -116,11 +90,9 @@ fn closed<W: Write>(
         Course::Ended => {
             let filled = session::at_end(program, s, out);
             let wrote = put(output, &out[..filled]);
-            stdio_course::after(0, wrote)
+            stdio_course::after(Some(0), wrote)
         }
-        Course::On => Course::On,
-        Course::InputLost => Course::InputLost,
-        Course::OutputLost => Course::OutputLost,
+        Course::On | Course::InputLost | Course::OutputLost => course,
     }
 }
 
@@ -132,14 +104,13 @@ fn tell<E: Write>(course: Course, errors: &mut E) -> bool {
             errors,
             b"output lost: standard output could not be written\n",
         ),
-        Course::On => true,
-        Course::Ended => true,
+        Course::On | Course::Ended => true,
     }
 }
 
 // Reads to the end of the input and answers its lines; a lost input or output stops it and is told.
 pub fn run<R: Read, W: Write, E: Write>(
-    program: u8,
+    program: Program,
     input: &mut R,
     output: &mut W,
     errors: &mut E,
@@ -154,32 +125,27 @@ pub fn run<R: Read, W: Write, E: Write>(
     let mut course = Course::On;
     let mut reads: u64 = 0;
     while reads < u64::MAX && stdio_course::reads_on(course) {
-        let read = read_some(input, &mut bytes);
-        let said = answered(program, s, &bytes[..read.n], &mut out, output);
-        course = stdio_course::after(read.got, said.whole);
-        s = said.session;
+        let got = read_some(input, &mut bytes);
+        let left = answered(program, s, &bytes[..got.unwrap_or(0)], &mut out, output);
+        course = stdio_course::after(got, left.is_some());
+        s = left.unwrap_or(s);
         reads += 1;
     }
     let end = closed(program, s, course, &mut out, output);
     tell(end, errors);
-    Ending {
-        course: end,
-        reads: reads,
-    }
+    Ending { course: end, reads }
 }
 
 // The status that a process ends with: a failure where input or output was lost.
 fn status(course: Course) -> ExitCode {
     match course {
-        Course::InputLost => ExitCode::FAILURE,
-        Course::OutputLost => ExitCode::FAILURE,
-        Course::On => ExitCode::SUCCESS,
-        Course::Ended => ExitCode::SUCCESS,
+        Course::InputLost | Course::OutputLost => ExitCode::FAILURE,
+        Course::On | Course::Ended => ExitCode::SUCCESS,
     }
 }
 
 // Runs over standard input and output, and tells on standard error what was lost.
-pub fn run_here(program: u8, rt: HostRuntime) -> ExitCode {
+pub fn run_here(program: Program, rt: HostRuntime) -> ExitCode {
     let mut input = rt.stdin();
     let mut output = rt.stdout();
     let mut errors = rt.stderr();
