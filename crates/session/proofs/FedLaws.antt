@@ -2,13 +2,14 @@
 use mathlib.Core.Path.{◌≡◌, refl, sym, ap, ◌∙◌}
 use mathlib.Core.Bool.{Bool, true, false, cond, true≢false}
 use mathlib.Core.List.{List, [], ◌∷◌, ◌++◌, append-nil, append_assoc}
-use Prim.Native.Nat.{ℕ, zero, suc, ◌+◌, ◌-◌, ◌<◌, ◌≤◌}
-use native.Mathlib.Numerals.{add-one}
+use Prim.Native.Nat.{ℕ, zero, suc, ◌+◌, ◌-◌, ◌<◌, ◌≤◌, min}
 use native.Mathlib.Omega.{arith}
 use borrow.Author.Tests.{ltb-true, ltb-false}
 use lib.Dec.{ltb, eqb}
 use lib.ListN.{length, take, drop, get_or, set, drop_of_length-le, length-append, length-take, length-drop}
-use lib.Seq.{drop-drop, take-add, take-suc-set, append_snoc, drop-cons, take_all, take_at, take-take, take-append-le, length-take-le}
+use native.Mathlib.Nat.{lt_of_not-le}
+use native.Mathlib.Decide.{dec_le}
+use lib.Seq.{drop-drop, take-add, take-append-add, append_snoc, take_all, take_at, length-take-le}
 use Rattle.refusals.specs.Refusals.{bad_line as badNumber}
 use Rattle.bridge.specs.declared.Bridge.{Bridge}
 use Rattle.hexadecimal.specs.Search.{up_to, found_at}
@@ -51,23 +52,28 @@ cut_twice (suc n) (c ∷ s) t = ap (λ (x : List ℕ). c ∷ x) (cut_twice n s t
 
 -- ---- what is kept
 
--- one byte more
-pub kept_next : (text more : List ℕ) (n i : ℕ) → n < length text → i < length more
-    → kept_text (take (n + 1) (set text n (get_or more i 0))) (drop (i + 1) more) ≡ kept_text (take n text) (drop i more)
-kept_next text more n i h k =
-    let x = get_or more i 0 in
-    rw (add-one n, add-one i, take-suc-set text n x h, drop-cons more i 0 k) (ap (take kept_bytes) (append_snoc (take n text) x (drop (suc i) more)))
+-- as much more as there is room for
+pub kept_more : (text more part tail : List ℕ) (len n : ℕ) → len ≤ kept_bytes → length text ≡ kept_bytes → n ≡ min (length more) (kept_bytes - len) → part ≡ take n more
+    → take (len + n) (take len text ++ (part ++ tail)) ≡ kept_text (take len text) more
+kept_more text more part tail len n h l e p =
+    let was = take len text in
+    let k : length was ≡ len = length-take-le len text (omega arith) in
+    let m : n ≤ length more = omega arith in
+    let whole : length (was ++ part) ≡ len + n = rw (p, length-append, k, length-take-le n more m) refl in
+    let z : length was + (kept_bytes - len) ≡ kept_bytes = omega arith in
+    ap (take (len + n)) (sym (append_assoc was part tail))
+    ∙ take_at (was ++ part) tail (len + n) whole
+    ∙ ap (λ (x : List ℕ). was ++ x) (p ∙ as_much (dec_le (length more) (kept_bytes - len)))
+    ∙ sym (take-append-add was more (kept_bytes - len))
+    ∙ ap (λ (i : ℕ). take i (was ++ more)) z
+  where
+    as_much : Dec (length more ≤ kept_bytes - len) → take n more ≡ take (kept_bytes - len) more
+    as_much (yes x) = take_all n more (omega arith) ∙ sym (take_all (kept_bytes - len) more x)
+    as_much (no x) = let y : n ≡ kept_bytes - len = omega (arith, lt_of_not-le x) in rw y refl
 
--- once all the room is taken
-pub kept_full : (text rest : List ℕ) (n : ℕ) → kept_bytes ≤ n → n ≤ kept_bytes → n ≤ length text → take n text ≡ kept_text (take n text) rest
-kept_full text rest n h k l =
-    let e : n ≡ kept_bytes = omega arith in
-    sym (take-append-le kept_bytes (take n text) rest (rw (length-take-le n text l) h) ∙ rw e (take-take kept_bytes kept_bytes text (omega arith)))
-
--- or the whole line is kept
-pub kept_whole : (text more : List ℕ) (n i : ℕ) → n ≤ kept_bytes → n ≤ length text → length more ≤ i → take n text ≡ kept_text (take n text) (drop i more)
-kept_whole text more n i k l h =
-    sym (rw (drop_of_length-le more h, append-nil (take n text)) (take_all kept_bytes (take n text) (rw (length-take-le n text l) k)))
+pub kept_length : (text more : List ℕ) (len n : ℕ) → len ≤ kept_bytes → length text ≡ kept_bytes → n ≡ min (length more) (kept_bytes - len)
+    → len + n ≡ length (kept_text (take len text) more)
+kept_length text more len n h l e = rw (length-take, length-append, length-take-le len text (omega arith)) (omega arith)
 
 -- where nothing is kept, there was nothing
 pub kept_empty : (was bytes : List ℕ) (from end : ℕ) → from ≤ end → end ≤ length bytes → length (kept_text was (part bytes from end)) ≡ 0 → end ≡ from

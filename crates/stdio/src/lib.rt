@@ -32,10 +32,7 @@ fn read_some<R: Read>(input: &mut R, bytes: &mut [u8]) -> Option<usize>
     ensures inside { IfSome result (λ n. n ≤ length bytes.new) }
     ensures gave { Gave result (R.remaining input.old) (R.remaining input.new) bytes.new }
 {
-    match input.read(bytes) {
-        Ok(n) => Some(n),
-        Err(_) => None,
-    }
+    input.read(bytes).ok()
 }
 
 // Writes bytes; whether all of them were written.

@@ -2,16 +2,17 @@
 use mathlib.Core.Path.{◌≡◌, refl, sym, ap, ◌∙◌, subst}
 use mathlib.Core.Bool.{true}
 use native.Mathlib.Omega.{arith}
-use Rattle.std.proofs.Common.{ℤ, w64}
-use Rattle.std.proofs.lemmas.Int.{to_z-of_z}
 use Rattle.stdio_course.specs.declared.Course.{Course}
 use Rattle.stdio_course.specs.Course.{course_after}
-use Rattle.stdio.proofs.Whole.{going, on_of, was_ended, Told, told_none, told_more, told_whole}
+use Rattle.stdio.proofs.Whole.{going, on_of, was_ended, Told, told_none, read_within, ready_on, told_more, told_whole}
 use Rattle.stdio.proofs.run.Goals as goal
 
 pub loop-reads-init : goal.loop-reads-init
 loop-reads-init g c =
     (c.start-s.ensures.ready, refl, refl, omega arith, λ _. told_none c.args.program c.start-s.result _ _ c.start-s.ensures.ready)
+
+pub slice_bounds-answered-end : goal.slice_bounds-answered-end
+slice_bounds-answered-end g c = ?
 
 pub loop-reads-preserved : goal.loop-reads-preserved
 loop-reads-preserved g c =
@@ -22,19 +23,19 @@ loop-reads-preserved g c =
     let held = g.W.Write.contents c.args.output.now in
     let has = g.R.Read.remaining l.input in
     let holds = g.W.Write.contents l.output in
-    let s₁ = c.answered-said.result.session in
-    let has₁ = g.R.Read.remaining c.read_some-read.new.input in
-    let holds₁ = g.W.Write.contents c.answered-said.new.output in
-    let read = c.read_some-read.result in
-    let said = c.answered-said.ensures in
+    let got = c.read_some-got.result in
+    let left = c.answered-left.result in
+    let s₁ = c.unwrap_or-s.result in
+    let has₁ = g.R.Read.remaining c.read_some-got.new.input in
+    let holds₁ = g.W.Write.contents c.answered-left.new.output in
+    let said = c.answered-left.ensures in
     let on = on_of l.course (sym c.reads_on.ensures ∙ c.if-reads_on.true) in
     let told = subst (λ (x : Course). going x ≡ true → Told p s₀ had held x l.s has holds) on l.invariant.4 refl in
-    let after = c.after-course.ensures ∙ ap (λ (z : ℤ). course_after z c.answered-said.result.whole) (to_z-of_z w64 read.got c.read_some-read.ensures.fits) in
-    let more = told_more p s₀ had held l.s has holds read.got read.n c.answered-said.result.whole c.read_some-read.new.bytes s₁ has₁ holds₁
-    told c.read_some-read.ensures.gave said.leaves said.writes in (
-      said.ready_2,
-      c.read_some-read.auto.bytes ∙ l.invariant.1,
-      c.answered-said.auto.out ∙ l.invariant.2,
+    let after = c.after-course.ensures ∙ ap (course_after got) c.is_some.ensures in
+    let more = told_more p s₀ had held l.s has holds got c.unwrap_or.result c.unwrap_or.ensures left s₁ c.unwrap_or-s.ensures c.read_some-got.new.bytes has₁ holds₁ told c.read_some-got.ensures.gave said.leaves said.writes in (
+      ready_on p s₀ had held l.s has holds got c.unwrap_or.result c.unwrap_or.ensures left s₁ c.unwrap_or-s.ensures said.ready_2 l.invariant.0,
+      c.read_some-got.auto.bytes ∙ l.invariant.1,
+      c.answered-left.auto.out ∙ l.invariant.2,
       omega (arith, c.loop-reads-test.true),
       subst (λ (x : Course). going x ≡ true → Told p s₀ had held x s₁ has₁ holds₁) (sym after) more,
     )
