@@ -1,6 +1,7 @@
 -- Stamps come in the order of their latches: a later wave never has an earlier stamp. Both are read off the same two samples, and the
 -- later latch is the one to which the way on is no longer than two stamped latches can lie apart; of any two, one is.
 use mathlib.Core.Path.{◌≡◌, refl, sym, ap, ◌∙◌}
+use Rattle.std.proofs.Common.{Ok}
 use mathlib.Core.Logic.{◌⊎◌, inl, inr}
 use Prim.Native.Nat.{ℕ, suc, ◌+◌, ◌-◌, ◌*◌, ◌/◌, ◌%◌, ◌<◌, ◌≤◌}
 use native.Mathlib.Nat.{div-add-mod, mod-lt, lt_of_not-le}
@@ -20,7 +21,6 @@ use Rattle.bridge.specs.Send.{chosen_samples}
 use Rattle.bridge.specs.declared.Bridge.{Bridge}
 use Rattle.recorder.specs.Stamp.{half_way, latched, distance_of, stamp_of}
 use Rattle.recorder.specs.Demands.{NoEarlier}
-use Rattle.recorder.specs.declared.Stamped.TheVariants.{At}
 use Rattle.numbers.proofs.Ring.{same, split, of_pos, of_neg, neg_pos, minus_is, sub_lt, sub_ge, sub_ge2, sub_add, sub_mul, sub_neg_is}
 use Rattle.samples.proofs.KeepLaws.{between_small}
 use Rattle.times.proofs.TimeLaws.{on_and_on}
@@ -137,25 +137,25 @@ distance_on newer latch later h k l =
 
 -- read off the same samples, whatever else changed in the state between them
 pub stamps_in_order : (b later-b : Bridge) (latch later : ℕ) (g h : GrandTime) → Lawful b → ends_of (chosen_samples later-b) ≡ ends_of (chosen_samples b)
-    → stamp_of b latch ≡ At g → stamp_of later-b later ≡ At h → NoEarlier later latch → units g ≤ units h
+    → stamp_of b latch ≡ Ok g → stamp_of later-b later ≡ Ok h → NoEarlier later latch → units g ≤ units h
 stamps_in_order b later-b latch later g h w same_ends e f l =
     let r = read_off b latch g e in
-    let s = read_at later-b later h r.older r.newer (same_ends ∙ r.kept) f in
+    let s = read_at later-b later h r.ends (same_ends ∙ r.kept) f in
     let n = since_of (latched later) (latched latch) in
-    let on = reading_on r.older r.newer (distance_of (latched latch) r.newer.local) n (chosen-ends b r.older r.newer w r.kept) in
+    let on = reading_on r.ends.oldest r.ends.newest (distance_of (latched latch) r.ends.newest.local) n (chosen-ends b r.ends w r.kept) in
     let time : pos (units h) ≡ pos (units g) +ℤ pos on.0 =
     s.1
-    ∙ ap (reading_at r.older r.newer) (distance_on r.newer.local (latched latch) (latched later) r.reach s.0 l)
+    ∙ ap (reading_at r.ends.oldest r.ends.newest) (distance_on r.ends.newest.local (latched latch) (latched later) r.reach s.0 l)
     ∙ on.1
     ∙ ap (λ (z : ℤ). z +ℤ pos on.0) (sym r.time) in
     omega (arith, ap nat_abs time)
 
 -- of two such latches one is no earlier than the other, so that the premise says no more than which of them is meant
 pub either_order : (b later-b : Bridge) (latch later : ℕ) (g h : GrandTime) → ends_of (chosen_samples later-b) ≡ ends_of (chosen_samples b)
-    → stamp_of b latch ≡ At g → stamp_of later-b later ≡ At h → NoEarlier later latch ⊎ NoEarlier latch later
+    → stamp_of b latch ≡ Ok g → stamp_of later-b later ≡ Ok h → NoEarlier later latch ⊎ NoEarlier latch later
 either_order b later-b latch later g h same_ends e f =
     let r = read_off b latch g e in
-    apart r.newer.local (latched latch) (latched later) r.reach (read_at later-b later h r.older r.newer (same_ends ∙ r.kept) f).0
+    apart r.ends.newest.local (latched latch) (latched later) r.reach (read_at later-b later h r.ends (same_ends ∙ r.kept) f).0
   where
     apart : (newer x y : LocalTime) → nat_abs (distance_of x newer) ≤ longest_reach → nat_abs (distance_of y newer) ≤ longest_reach
         → (since_of y x ≤ 2 * longest_reach) ⊎ (since_of x y ≤ 2 * longest_reach)

@@ -1,17 +1,21 @@
 -- Stamps at the edges: a table of cases that we chose, each with what the request's rule gives.
-use Rattle.std.specs.Prelude.{List, [], ◌∷◌, ℕ, ◌+◌, ◌-◌, ◌*◌, ◌^◌}
+use Rattle.std.specs.Prelude.{List, [], ◌∷◌, ℕ, ◌+◌, ◌-◌, ◌*◌, ◌^◌, Option, Some, Result}
+use Rattle.std.proofs.Math.Option.{Option as Carried, some, none}
+use Rattle.refusals.specs.Answer.{answer_number, answer_value}
+use Rattle.refusals.specs.Edge.{Edge}
+use Rattle.refusals.specs.declared.Refusal.{Refusal}
 use Rattle.times.specs.Times.{circle, second, grand_end, grand_of}
+use Rattle.times.specs.declared.GrandTime.{GrandTime}
 use Rattle.samples.specs.declared.Sample.{Sample}
 use Rattle.samples.specs.declared.Ends.{Ends}
-use Rattle.samples.specs.declared.Ends.TheVariants.{Both}
 use Rattle.recorder.specs.Stamp.{latched, stamp_through}
-use Rattle.recorder.specs.declared.Stamped.{Stamped}
-use Rattle.recorder.specs.declared.Stamped.TheVariants.{At, Refused}
 
--- what the definitions give, and what the request's rule does
-pub record Edge : Type 0 where
-  pub got : Stamped
-  pub says : Stamped
+-- the number of a stamp, and the grand time that it carries
+abbrev pub Said : Type 0
+Said = ℕ × Carried GrandTime
+
+abbrev said : Result GrandTime Refusal → Said
+said s = (answer_number s, answer_value s)
 
 -- a sample of so many units of grand time and of local time
 abbrev sample : ℕ → ℕ → Sample
@@ -21,11 +25,11 @@ sample grand local = record { grand = grand_of grand; local = latched local; err
 abbrev spread : ℕ
 spread = 2 ^ 34
 
-abbrev samples : ℕ → ℕ → Ends
-samples start gained = Both (sample start 0) (sample (start + spread + gained) spread)
+abbrev samples : ℕ → ℕ → Option Ends
+samples start gained = Some (record { oldest = sample start 0; newest = sample (start + spread + gained) spread })
 
 -- a gain of 2: the rate is 4, and floor(4 × distance / 2^35) is floor(distance / 2^33)
-abbrev steady : Ends
+abbrev steady : Option Ends
 steady = samples (100 * second) 2
 
 -- the grand time of its newer sample
@@ -33,26 +37,26 @@ abbrev newer : ℕ
 newer = 100 * second + spread + 2
 
 -- samples at the first grand times, and at the last ones
-abbrev first : Ends
+abbrev first : Option Ends
 first = samples 0 2
 
-abbrev last : Ends
+abbrev last : Option Ends
 last = samples (grand_end - spread - spread) 0
 
 -- a latch so far after the newer sample, or so far before it, round the circle
-abbrev after : Ends → ℕ → Stamped
+abbrev after : Option Ends → ℕ → Result GrandTime Refusal
 after ends n = stamp_through ends (latched (spread + n))
 
-abbrev before : Ends → ℕ → Stamped
+abbrev before : Option Ends → ℕ → Result GrandTime Refusal
 before ends n = stamp_through ends (latched (spread + circle - n))
 
-abbrev stamped : Stamped → ℕ → Edge
-stamped s n = record { got = s; says = At (grand_of n) }
+abbrev stamped : Result GrandTime Refusal → ℕ → Edge Said
+stamped s n = record { got = said s; says = (0, some (grand_of n)) }
 
-abbrev refused : Stamped → ℕ → Edge
-refused s k = record { got = s; says = Refused k }
+abbrev refused : Result GrandTime Refusal → ℕ → Edge Said
+refused s k = record { got = said s; says = (k, none) }
 
-unfoldable pub edges : List Edge
+unfoldable pub edges : List (Edge Said)
 edges =
     -- distance 0, 1, -1
     stamped (after steady 0) newer

@@ -1,26 +1,21 @@
 -- The stamp of a latch: the grand time of a local time that the recorder's front end latched when a wave arrived.
-use Rattle.std.specs.Prelude.{Bool, true, false, cond, ℕ, ◌^◌, ltb, leb, ℤ, pos, negsuc, nat_abs, ◌-ℤ◌}
-use Rattle.std.proofs.Math.Option.{Option, none, some}
+use Rattle.std.specs.Prelude.{Bool, true, false, cond, ℕ, ◌^◌, ltb, leb, ℤ, pos, negsuc, nat_abs, ◌-ℤ◌, Option, Some, None, Result, Ok, Err}
 use Rattle.refusals.specs.Refusals.{done, out_of_range, no_clock, few_samples, too_late, beyond_range}
 use Rattle.refusals.specs.Chain.{unless}
+use Rattle.refusals.specs.declared.Refusal.{Refusal}
+use Rattle.refusals.specs.declared.Refusal.TheVariants.{OutOfRange, NoClock, FewSamples, TooLate, BeyondRange}
 use Rattle.times.specs.Times.{circle, grand_end, since_of, grand_of, moment_of}
 use Rattle.times.specs.declared.LocalTime.{LocalTime}
 use Rattle.times.specs.declared.GrandTime.{GrandTime}
-use Rattle.times.specs.declared.Moment.{Moment}
-use Rattle.times.specs.declared.Moment.TheVariants as Moments
 use Rattle.samples.specs.Keep.{ends_of}
 use Rattle.samples.specs.declared.Samples.{Samples}
 use Rattle.samples.specs.declared.Ends.{Ends}
-use Rattle.samples.specs.declared.Ends.TheVariants.{Few, Both}
 use Rattle.timeline.specs.Line.{longest_reach, reading_at}
 use Rattle.choice.specs.declared.Candidate.{Candidate}
-use Rattle.choice.specs.declared.Candidate.TheVariants.{Nothing, Clock}
 use Rattle.bridge.specs.Table.{samples_of_choice}
 use Rattle.bridge.specs.Chosen.{chosen_of}
 use Rattle.bridge.specs.Send.{chosen_samples}
 use Rattle.bridge.specs.declared.Bridge.{Bridge}
-use Rattle.recorder.specs.declared.Stamped.{Stamped}
-use Rattle.recorder.specs.declared.Stamped.TheVariants.{At, Refused}
 
 -- a latch as a local time
 abbrev pub latched : ℕ → LocalTime
@@ -47,59 +42,49 @@ abbrev pub too_far : ℕ
 too_far = too_late
 
 -- the grand time of a moment; 13 where there is none: below zero, or from 2^80 on
-abbrev pub stamp_as : Moment → Stamped
-stamp_as (Moments.At g) = At g
-stamp_as Moments.Beyond = Refused beyond_range
+abbrev pub stamp_as : Option GrandTime → Result GrandTime Refusal
+stamp_as (Some g) = Ok g
+stamp_as None = Err BeyondRange
 
 -- the line read at the latch: `stamp_formula` says that this is newer grand time + distance + floor(rate × distance / 2^35)
-abbrev pub stamp_through : Ends → LocalTime → Stamped
-stamp_through Few latch = Refused few_samples
-stamp_through (Both a b) latch =
-    cond (leb (nat_abs (distance_of latch b.local)) longest_reach) (stamp_as (moment_of (reading_at a b (distance_of latch b.local)))) (Refused too_far)
+abbrev pub stamp_through : Option Ends → LocalTime → Result GrandTime Refusal
+stamp_through None latch = Err FewSamples
+stamp_through (Some e) latch =
+    cond (leb (nat_abs (distance_of latch e.newest.local)) longest_reach) (stamp_as (moment_of (reading_at e.oldest e.newest (distance_of latch e.newest.local)))) (Err TooLate)
 
 -- 10 where no clock is chosen; else by the samples of the chosen clock
-abbrev pub stamp_by_of : Candidate → Samples → LocalTime → Stamped
-stamp_by_of Nothing samples latch = Refused no_clock
-stamp_by_of (Clock precedence hop number) samples latch = stamp_through (ends_of samples) latch
+abbrev pub stamp_by_of : Option Candidate → Samples → LocalTime → Result GrandTime Refusal
+stamp_by_of None samples latch = Err NoClock
+stamp_by_of (Some c) samples latch = stamp_through (ends_of samples) latch
 
 -- 2 first; any number may be given for the latch
-abbrev pub stamp_for_of : Candidate → Bridge → ℕ → Stamped
-stamp_for_of choice b latch = cond (ltb latch circle) (stamp_by_of choice (samples_of_choice choice b.clock b.ports) (latched latch)) (Refused out_of_range)
+abbrev pub stamp_for_of : Option Candidate → Bridge → ℕ → Result GrandTime Refusal
+stamp_for_of choice b latch = cond (ltb latch circle) (stamp_by_of choice (samples_of_choice choice b.clock b.ports) (latched latch)) (Err OutOfRange)
 
 -- the choice is that of the state
-unfoldable pub stamp_of : Bridge → ℕ → Stamped
+unfoldable pub stamp_of : Bridge → ℕ → Result GrandTime Refusal
 stamp_of b latch = stamp_for_of (chosen_of b) b latch
-
--- ---- the number of an answer, and the grand time that it carries
-
-abbrev pub stamp_no : Stamped → ℕ
-stamp_no (At g) = done
-stamp_no (Refused k) = k
-
-abbrev pub stamp_time : Stamped → Option GrandTime
-stamp_time (At g) = some g
-stamp_time (Refused k) = none
 
 -- ---- the number and the grand time of a stamp, by the state and the latch
 
 -- a clock is chosen
-abbrev pub is_clock : Candidate → Bool
-is_clock Nothing = false
-is_clock (Clock precedence hop number) = true
+abbrev pub is_clock : Option Candidate → Bool
+is_clock None = false
+is_clock (Some c) = true
 
 -- its samples have both ends
-abbrev pub has_ends : Ends → Bool
-has_ends Few = false
-has_ends (Both a b) = true
+abbrev pub has_ends : Option Ends → Bool
+has_ends None = false
+has_ends (Some e) = true
 
 -- how far the latch lies from the newer end, and the line read there; 0 where there are no ends
-abbrev pub distance_from : Ends → LocalTime → ℤ
-distance_from Few latch = pos 0
-distance_from (Both a b) latch = distance_of latch b.local
+abbrev pub distance_from : Option Ends → LocalTime → ℤ
+distance_from None latch = pos 0
+distance_from (Some e) latch = distance_of latch e.newest.local
 
-abbrev pub reading_from : Ends → LocalTime → ℤ
-reading_from Few latch = pos 0
-reading_from (Both a b) latch = reading_at a b (distance_of latch b.local)
+abbrev pub reading_from : Option Ends → LocalTime → ℤ
+reading_from None latch = pos 0
+reading_from (Some e) latch = reading_at e.oldest e.newest (distance_of latch e.newest.local)
 
 -- z is the units of a grand time: no less than 0, and below 2^80
 abbrev pub is_grand : ℤ → Bool
@@ -107,7 +92,7 @@ is_grand (pos n) = ltb n grand_end
 is_grand (negsuc n) = false
 
 -- the ends of the chosen clock's samples
-abbrev pub chosen_ends_of : Bridge → Ends
+abbrev pub chosen_ends_of : Bridge → Option Ends
 chosen_ends_of b = ends_of (chosen_samples b)
 
 -- 2 unless the latch is a local time, 10 unless a clock is chosen, 11 unless it has two samples, 12 unless the latch lies within reach of the newer one,

@@ -5,8 +5,9 @@ ghost use Rattle.std.specs.Prelude.{◌≡◌};
 ghost use Rattle.samples.specs.Keep.{ends_of, LawfulSamples};
 ghost use Rattle.recorder.specs.Stamp.{distance_of, stamp_through};
 
-use samples::{Ends, Samples};
-use times::{GrandTime, LocalTime, Moment, local};
+use refusals::Refusal;
+use samples::Samples;
+use times::{GrandTime, LocalTime, local};
 
 // Half way round the circle of local time.
 const HALF_WAY: u64 = 0x8000_0000_0000;
@@ -14,18 +15,8 @@ const HALF_WAY: u64 = 0x8000_0000_0000;
 // A latch is stamped at most this far from the newer sample, before or after it.
 const LONGEST_REACH: u64 = 0x80_0000_0000;
 
-// The number of the refusal of a latch that lies farther: Send's number for a departure that does.
-const TOO_FAR: u8 = refusals::TOO_LATE;
-
 // What is added to a reading of the line: to a stamp, nothing.
 const NOTHING_MORE: u64 = 0;
-
-// What a latch is stamped with: its grand time, or a refusal.
-#[derive(Clone, Copy)]
-pub enum Stamped {
-    At(GrandTime),
-    Refused(u8),
-}
 
 // How far a latch lies after the newer sample, below zero where it lies before it: the nearer way round the circle.
 fn distance(latch: LocalTime, newer: LocalTime) -> i64
@@ -38,23 +29,16 @@ fn distance(latch: LocalTime, newer: LocalTime) -> i64
     numbers_whole::difference(after, local::CIRCLE)
 }
 
-// The stamp of a latch, read off the line through the ends of a clock's samples.
-pub fn through(samples: Samples, latch: LocalTime) -> Stamped
+// The stamp of a latch, read off the line through the ends of a clock's samples. A latch that lies too far from the newer sample has Send's refusal for a departure that does.
+pub fn through(samples: Samples, latch: LocalTime) -> Result<GrandTime, Refusal>
     requires { LawfulSamples samples }
     ensures { result ≡ stamp_through (ends_of samples) latch }
 {
-    match samples_kept::ends(samples) {
-        Ends::Few => Stamped::Refused(refusals::FEW_SAMPLES),
-        Ends::Both(oldest, newest) => {
-            let away = distance(latch, newest.local);
-            if LONGEST_REACH < numbers_whole::abs(away) {
-                return Stamped::Refused(TOO_FAR);
-            }
-            let rate = samples_kept::rate_between(oldest, newest);
-            match timeline::reading(newest, rate, away, NOTHING_MORE) {
-                Moment::At(time) => Stamped::At(time),
-                Moment::Beyond => Stamped::Refused(refusals::BEYOND_RANGE),
-            }
-        }
+    let ends = samples_kept::ends(samples).ok_or(Refusal::FewSamples)?;
+    let away = distance(latch, ends.newest.local);
+    if LONGEST_REACH < numbers_whole::abs(away) {
+        return Err(Refusal::TooLate);
     }
+    let rate = samples_kept::rate_between(ends.oldest, ends.newest);
+    timeline::reading(ends.newest, rate, away, NOTHING_MORE).ok_or(Refusal::BeyondRange)
 }
