@@ -7,6 +7,7 @@ ghost use Rattle.columns.specs.Columns.{longest_answer};
 ghost use Rattle.answer.specs.Answer.{refused_line, done_says, Says};
 
 use bridge::{Bridge, Done};
+use refusals::Refusal;
 
 // The state after a line, and the length of what is printed for it.
 #[derive(Clone, Copy)]
@@ -23,19 +24,18 @@ pub fn refused(b: Bridge, out: &mut [u8]) -> Answered
 {
     Answered {
         next: b,
-        len: columns::one(out, refusals::BAD_LINE),
+        len: columns::one(out, u8::from(Refusal::BadLine)),
     }
 }
 
-// A call that answers a number.
-pub fn done(d: Done, out: &mut [u8]) -> Answered
+// A call whose answer carries nothing.
+pub fn done(d: Done<()>, out: &mut [u8]) -> Answered
     requires lawful { Lawful d.next }
     requires longest_answer_in_bounds { longest_answer ≤ length out.old }
     ensures { Says (done_says d) result out.old out.new }
 {
-    let next = d.next;
     Answered {
-        next: next,
-        len: columns::one(out, d.answer),
+        next: d.next,
+        len: columns::one(out, refusals::number(d.answer)),
     }
 }

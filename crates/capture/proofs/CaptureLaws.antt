@@ -5,6 +5,7 @@ use mathlib.Core.List.{List}
 use Prim.Native.Nat.{ℕ, ◌<◌}
 use lib.IntN.{pos}
 use lib.ListN.{length}
+use Rattle.std.specs.Prelude.{⊤}
 use Rattle.refusals.specs.Refusals.{bad_line}
 use Rattle.bridge.specs.declared.Bridge.{Bridge}
 use Rattle.bridge.specs.declared.Done.{Done}
@@ -21,7 +22,7 @@ module _ (b : Bridge) (s : List ℕ) where
   unfolding listed_of
   listed_bad e = if_false _ _ _ e
 
-  pub listed_done : (done : Done) → is_line s ≡ true → done ≡ captured_of b s → done_of done ≡ listed_of b s
+  pub listed_done : (done : Done ⊤) → is_line s ≡ true → done ≡ captured_of b s → done_of done ≡ listed_of b s
   unfolding listed_of
   listed_done done e d = ap done_of d ∙ if_true _ _ _ e
 

@@ -1,6 +1,7 @@
 -- The lines of a capture, and what is printed for each: the answer, and the clock that is chosen then.
-use Rattle.std.specs.Prelude.{Bool, cond, List, ℕ, get_or, drop}
+use Rattle.std.specs.Prelude.{Bool, cond, List, ℕ, get_or, drop, Option, ⊤}
 use Rattle.refusals.specs.Refusals.{bad_line}
+use Rattle.refusals.specs.Answer.{answer_number}
 use Rattle.numbers.specs.Bytes.{number_at}
 use Rattle.choice.specs.Choose.{shown_port, shown_hop}
 use Rattle.choice.specs.declared.Candidate.{Candidate}
@@ -37,7 +38,7 @@ abbrev pub is_line : List ℕ → Bool
 is_line s = exactly line_digits s
 
 -- an answer, with the port and the held hop of the clock that is chosen then
-abbrev pub listed_text : ℕ → Candidate → List ℕ
+abbrev pub listed_text : ℕ → Option Candidate → List ℕ
 listed_text answer choice = line3 answer (shown_port choice) (shown_hop choice)
 
 abbrev pub listed_as : Bridge → ℕ → Answer
@@ -56,15 +57,15 @@ arrival_bytes = 6
 abbrev pub frame_place : ℕ
 frame_place = 7
 
-abbrev pub captured_from : Bridge → List ℕ → Done
+abbrev pub captured_from : Bridge → List ℕ → Done ⊤
 captured_from b bytes = receive_of b (get_or bytes port_place 0) (drop frame_place bytes) (number_at bytes arrival_place arrival_bytes)
 
-abbrev pub captured_of : Bridge → List ℕ → Done
+abbrev pub captured_of : Bridge → List ℕ → Done ⊤
 captured_of b s = captured_from b (pairs s)
 
 -- a call's answer, with the clock that is chosen after it
-abbrev pub done_of : Done → Answer
-done_of done = listed_as done.next done.answer
+abbrev pub done_of : Done ⊤ → Answer
+done_of done = listed_as done.next (answer_number done.answer)
 
 -- a line is received, and a text that isn't one is refused
 unfoldable pub listed_of : Bridge → List ℕ → Answer

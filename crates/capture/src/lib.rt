@@ -2,6 +2,7 @@
 #![tactic(auto)]
 
 ghost use Rattle.std.specs.Prelude.{◌≡◌, ◌≤◌, length};
+ghost use Rattle.refusals.specs.Answer.{answer_number};
 ghost use Rattle.bridge.specs.State.{Lawful};
 ghost use Rattle.columns.specs.Columns.{longest_answer, Prints};
 ghost use Rattle.answer.specs.Answer.{Says};
@@ -11,6 +12,7 @@ use answer::Answered;
 use bridge::Bridge;
 use choice::Candidate;
 use hexadecimal::digits;
+use refusals::Refusal;
 
 // The listing's bridge: two ports, both linked, and a backTime of 10 ms, which is not the default.
 const PORTS: u8 = 2;
@@ -36,24 +38,19 @@ pub fn start() -> Bridge
     ensures value { result ≡ start_of }
     ensures lawful { Lawful result }
 {
-    let first = bridge_setup::setup(bridge_setup::plain_setup(
-        PORTS,
-        bridge::default_timeout(),
-        BACK,
-    ));
-    let down = first.next;
-    let linked = bridge_links::links(down, BOTH_LINKED);
-    linked.next
+    let given = bridge_setup::plain_setup(PORTS, bridge::default_timeout(), BACK);
+    let down = bridge_setup::setup(given).next;
+    bridge_links::links(down, BOTH_LINKED).next
 }
 
 // Prints an answer with the chosen clock.
-fn listed(choice: Candidate, answer: u8, out: &mut [u8]) -> usize
+fn listed(choice: Option<Candidate>, answer: Result<(), Refusal>, out: &mut [u8]) -> usize
     requires { longest_answer ≤ length out.old }
-    ensures { Prints (listed_text answer choice) result out.old out.new }
+    ensures { Prints (listed_text (answer_number answer) choice) result out.old out.new }
 {
     let port = choice_candidates::shown_port(choice);
     let hop = choice_candidates::shown_hop(choice);
-    columns::three(out, answer, port, hop)
+    columns::three(out, refusals::number(answer), port, hop)
 }
 
 // The state after a line, and what is printed for it in out.
@@ -65,16 +62,15 @@ pub fn answer_line(b: Bridge, text: &[u8], out: &mut [u8]) -> Answered
     if !digits::exactly(text, LINE_DIGITS) {
         return Answered {
             next: b,
-            len: listed(bridge_chosen::chosen(b), refusals::BAD_LINE, out),
+            len: listed(bridge_chosen::chosen(b), Err(Refusal::BadLine), out),
         };
     }
     let mut line = [0u8; 71];
     digits::bytes(text, &mut line);
     let arrival = numbers_bytes::number_at(&line, ARRIVAL_PLACE, ARRIVAL_BYTES);
     let done = bridge_receive::receive(b, line[PORT_PLACE], &line[FRAME_PLACE..], arrival);
-    let next = done.next;
     Answered {
-        next: next,
-        len: listed(bridge_chosen::chosen(next), done.answer, out),
+        next: done.next,
+        len: listed(bridge_chosen::chosen(done.next), done.answer, out),
     }
 }

@@ -1,9 +1,10 @@
 -- The lines of the stamps program: a latch among the lines of a capture, and the stamp that is printed for it.
-use Rattle.std.specs.Prelude.{Bool, cond, List, [], ◌∷◌, ℕ}
+use Rattle.std.specs.Prelude.{Bool, cond, List, [], ◌∷◌, ℕ, Result, Ok, Err}
+use Rattle.refusals.specs.Refusals.{number_of}
+use Rattle.refusals.specs.declared.Refusal.{Refusal}
+use Rattle.times.specs.declared.GrandTime.{GrandTime}
 use Rattle.bridge.specs.declared.Bridge.{Bridge}
-use Rattle.recorder.specs.Stamp.{stamp_of, stamp_no}
-use Rattle.recorder.specs.declared.Stamped.{Stamped}
-use Rattle.recorder.specs.declared.Stamped.TheVariants.{At, Refused}
+use Rattle.recorder.specs.Stamp.{stamp_of}
 use Rattle.hexadecimal.specs.Character.{newline}
 use Rattle.hexadecimal.specs.Digit.{exactly, worth}
 use Rattle.columns.specs.Columns.{columns_text, line1}
@@ -26,9 +27,9 @@ abbrev pub fraction_bytes : ℕ
 fraction_bytes = 5
 
 -- a stamp, 20 digits, or the refusal
-abbrev pub latch_text : Stamped → List ℕ
-latch_text (At g) = columns_text (seconds_bytes ∷ fraction_bytes ∷ 0 ∷ []) (g.0 ∷ g.1 ∷ newline ∷ [])
-latch_text (Refused k) = line1 (stamp_no (Refused k))
+abbrev pub latch_text : Result GrandTime Refusal → List ℕ
+latch_text (Ok g) = columns_text (seconds_bytes ∷ fraction_bytes ∷ 0 ∷ []) (g.0 ∷ g.1 ∷ newline ∷ [])
+latch_text (Err refusal) = line1 (number_of refusal)
 
 -- a latch leaves the state as it is
 abbrev pub latch_says : Bridge → ℕ → Answer

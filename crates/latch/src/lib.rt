@@ -9,7 +9,8 @@ ghost use Rattle.latch.specs.Latch.{is_latch, latch_text, latched_of};
 use bridge::Bridge;
 use columns::{CHARACTER, NEWLINE};
 use hexadecimal::digits;
-use recorder::Stamped;
+use refusals::Refusal;
+use times::GrandTime;
 
 // The digits of a latch.
 const LATCH_DIGITS: usize = 12;
@@ -20,17 +21,17 @@ const SECONDS_BYTES: usize = 5;
 const FRACTION_BYTES: usize = 5;
 
 // Prints a stamp, or the refusal.
-fn stamped(stamp: Stamped, out: &mut [u8]) -> usize
+fn stamped(stamp: Result<GrandTime, Refusal>, out: &mut [u8]) -> usize
     requires { longest_answer ≤ length out.old }
     ensures { Prints (latch_text stamp) result out.old out.new }
 {
     match stamp {
-        Stamped::At(time) => columns::line(
+        Ok(time) => columns::line(
             out,
             &[SECONDS_BYTES, FRACTION_BYTES, CHARACTER],
             &[time.0, time.1, NEWLINE],
         ),
-        Stamped::Refused(no) => columns::one(out, no),
+        Err(refusal) => columns::one(out, u8::from(refusal)),
     }
 }
 

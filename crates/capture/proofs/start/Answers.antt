@@ -1,4 +1,5 @@
 -- By what Setup and Links ensure.
+use Rattle.std.specs.Prelude.{⊤}
 use Rattle.std.proofs.Common.{ap, ◌∙◌, ℕ}
 use Rattle.bridge.specs.Fits.{plain_setup}
 use Rattle.bridge.specs.Setup.{setup_of}
@@ -11,6 +12,6 @@ use Rattle.capture.proofs.start.Goals as goal
 pub returns-clause-value : goal.returns-clause-value
 unfolding start_of
 returns-clause-value c =
-    let given = c.plain_setup.ensures ∙ ap (λ (timeout : ℕ). plain_setup listing_ports timeout listing_back) c.default_timeout.ensures in
-    let set = done_is c.setup-first.ensures ∙ ap setup_of given in
-    c.links-linked.ensures.next ∙ ap (λ (x : Done). (links_of x.next both_linked).next) set
+    let given = c.plain_setup-given.ensures ∙ ap (λ (timeout : ℕ). plain_setup listing_ports timeout listing_back) c.default_timeout.ensures in
+    let set = done_is c.setup.ensures ∙ ap setup_of given in
+    c.links.ensures.next ∙ ap (λ (x : Done ⊤). (links_of x.next both_linked).next) set
