@@ -71,46 +71,33 @@ told_none p s had held r = record {
   at_end = λ e. absurd (on_not_ended e);
 }
 
+-- no more bytes of a buffer are answered than a read gave
+pub read_within : (got : Option ℕ) (k n : ℕ) → k ≡ unwrap_or got 0 → IfSome got (λ m. m ≤ n) → k ≤ n
+read_within None k n e w = omega arith
+read_within (Some m) k n e w = omega (arith, w)
+
+-- what the answers to them leave stays ready
+pub ready_on : (left : Option Session) (s s₁ : Session) → s₁ ≡ unwrap_or left s → IfSome left (λ x. Ready x) → Ready s → Ready s₁
+ready_on None s s₁ e r q = rw e q
+ready_on (Some x) s s₁ e r q = rw e r
+
 -- one read more, what it gave being answered, or its output lost
-module _ (p : Program) (s₀ : Session) (had held : Option (List ℕ)) (s : Session) (has holds : Option (List ℕ)) (got : Option ℕ) (k : ℕ) (size : k ≡ unwrap_or got 0) where
-  -- no more bytes are answered than a buffer of n has
-  pub read_within : (n : ℕ) → IfSome got (λ m. m ≤ n) → k ≤ n
-  read_within n w = rw size (by got w)
-    where
-      by : (o : Option ℕ) → IfSome o (λ m. m ≤ n) → unwrap_or o 0 ≤ n
-      by None v = omega arith
-      by (Some m) v = v
-
-  module _ (left : Option Session) (s₁ : Session) (next : s₁ ≡ unwrap_or left s) where
-    -- the session stays ready
-    pub ready_on : IfSome left (λ x. Ready x) → Ready s → Ready s₁
-    ready_on r q = rw next (by left r)
-      where
-        by : (o : Option Session) → IfSome o (λ x. Ready x) → Ready (unwrap_or o s)
-        by None v = q
-        by (Some x) v = v
-
-    pub told_more : (bytes : List ℕ) (has₁ holds₁ : Option (List ℕ)) → Told p s₀ had held On s has holds → Gave got has has₁ bytes
-        → IfSome left (λ x. Leaves (fed_of p s.bridge (line_of s) (take k bytes)) x)
-        → IfSome left (λ x. Appends holds holds₁ (fed_of p s.bridge (line_of s) (take k bytes)).text)
-        → going (course_after got (is_some left)) ≡ true → Told p s₀ had held (course_after got (is_some left)) s₁ has₁ holds₁
-    told_more bytes has₁ holds₁ t g l w e = by got left size next g l w e
-      where
-        by : (o : Option ℕ) (u : Option Session) → k ≡ unwrap_or o 0 → s₁ ≡ unwrap_or u s → Gave o has has₁ bytes
-            → IfSome u (λ x. Leaves (fed_of p s.bridge (line_of s) (take k bytes)) x)
-            → IfSome u (λ x. Appends holds holds₁ (fed_of p s.bridge (line_of s) (take k bytes)).text)
-            → going (course_after o (is_some u)) ≡ true → Told p s₀ had held (course_after o (is_some u)) s₁ has₁ holds₁
-        by o None f n h l w e = absurd (true≢false (sym e))
-        by None (Some x) f n h l w e = absurd (true≢false (sym e))
-        by (Some m) (Some x) f n h l w e =
-            let leaves : Leaves (fed_of p s.bridge (line_of s) (take k bytes)) s₁ = rw n l in
-            let both = two_reads p s₀.bridge (line_of s₀) t.done (take k bytes) _ _ s s₁ t.leaves refl leaves refl in record {
-              done = t.done ++ take k bytes;
-              read = Consumes-trans _ _ _ _ _ t.read (rw f h.0);
-              leaves = both.0;
-              wrote = subst (λ (x : List ℕ). Appends held holds₁ x) both.1 (Appends-trans _ _ _ _ _ t.wrote w);
-              at_end = λ z. h.1 (ended_none m z);
-            }
+pub told_more : (p : Program) (s₀ : Session) (had held : Option (List ℕ)) (s : Session) (has holds : Option (List ℕ)) (got : Option ℕ) (k : ℕ) (left : Option Session) (s₁ : Session) (bytes : List ℕ) (has₁ holds₁ : Option (List ℕ))
+    → k ≡ unwrap_or got 0 → s₁ ≡ unwrap_or left s → Told p s₀ had held On s has holds → Gave got has has₁ bytes
+    → IfSome left (λ x. Leaves (fed_of p s.bridge (line_of s) (take k bytes)) x)
+    → IfSome left (λ x. Appends holds holds₁ (fed_of p s.bridge (line_of s) (take k bytes)).text)
+    → going (course_after got (is_some left)) ≡ true → Told p s₀ had held (course_after got (is_some left)) s₁ has₁ holds₁
+told_more p s₀ had held s has holds got k None s₁ bytes has₁ holds₁ f n t g l w e = absurd (true≢false (sym e))
+told_more p s₀ had held s has holds None k (Some x) s₁ bytes has₁ holds₁ f n t g l w e = absurd (true≢false (sym e))
+told_more p s₀ had held s has holds (Some m) k (Some x) s₁ bytes has₁ holds₁ f n t g l w e =
+    let leaves : Leaves (fed_of p s.bridge (line_of s) (take k bytes)) s₁ = rw n l in
+    let both = two_reads p s₀.bridge (line_of s₀) t.done (take k bytes) _ _ s s₁ t.leaves refl leaves refl in record {
+      done = t.done ++ take k bytes;
+      read = Consumes-trans _ _ _ _ _ t.read (rw f g.0);
+      leaves = both.0;
+      wrote = subst (λ (x : List ℕ). Appends held holds₁ x) both.1 (Appends-trans _ _ _ _ _ t.wrote w);
+      at_end = λ z. g.1 (ended_none m z);
+    }
 
 -- at the end of the input, with what is left of a line: the whole of it is answered
 pub told_whole : (p : Program) (s₀ : Session) (had held : Option (List ℕ)) (s : Session) (has holds holds₁ : Option (List ℕ)) → s₀.bridge ≡ start_by p → line_of s₀ ≡ []

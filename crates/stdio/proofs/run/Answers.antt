@@ -2,6 +2,7 @@
 use mathlib.Core.Path.{◌≡◌, refl, sym, ap, ◌∙◌, subst}
 use mathlib.Core.Bool.{true}
 use native.Mathlib.Omega.{arith}
+use Rattle.std.proofs.Common.{length-take-le}
 use Rattle.stdio_course.specs.declared.Course.{Course}
 use Rattle.stdio_course.specs.Course.{course_after}
 use Rattle.stdio.proofs.Whole.{going, on_of, was_ended, Told, told_none, read_within, ready_on, told_more, told_whole}
@@ -12,7 +13,8 @@ loop-reads-init g c =
     (c.start-s.ensures.ready, refl, refl, omega arith, λ _. told_none c.args.program c.start-s.result _ _ c.start-s.ensures.ready)
 
 pub slice_bounds-answered-end : goal.slice_bounds-answered-end
-slice_bounds-answered-end g c = ?
+slice_bounds-answered-end g c =
+    sym (length-take-le _ c.read_some-got.new.bytes (read_within c.read_some-got.result _ _ c.unwrap_or.ensures c.read_some-got.ensures.inside))
 
 pub loop-reads-preserved : goal.loop-reads-preserved
 loop-reads-preserved g c =
@@ -32,8 +34,8 @@ loop-reads-preserved g c =
     let on = on_of l.course (sym c.reads_on.ensures ∙ c.if-reads_on.true) in
     let told = subst (λ (x : Course). going x ≡ true → Told p s₀ had held x l.s has holds) on l.invariant.4 refl in
     let after = c.after-course.ensures ∙ ap (course_after got) c.is_some.ensures in
-    let more = told_more p s₀ had held l.s has holds got c.unwrap_or.result c.unwrap_or.ensures left s₁ c.unwrap_or-s.ensures c.read_some-got.new.bytes has₁ holds₁ told c.read_some-got.ensures.gave said.leaves said.writes in (
-      ready_on p s₀ had held l.s has holds got c.unwrap_or.result c.unwrap_or.ensures left s₁ c.unwrap_or-s.ensures said.ready_2 l.invariant.0,
+    let more = told_more p s₀ had held l.s has holds got c.unwrap_or.result left s₁ c.read_some-got.new.bytes has₁ holds₁ c.unwrap_or.ensures c.unwrap_or-s.ensures told c.read_some-got.ensures.gave said.leaves said.writes in (
+      ready_on left l.s s₁ c.unwrap_or-s.ensures said.ready_2 l.invariant.0,
       c.read_some-got.auto.bytes ∙ l.invariant.1,
       c.answered-left.auto.out ∙ l.invariant.2,
       omega (arith, c.loop-reads-test.true),
