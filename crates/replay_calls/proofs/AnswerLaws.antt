@@ -5,15 +5,15 @@ use mathlib.Core.List.{List}
 use mathlib.Core.Logic.{inl, inr}
 use Prim.Native.Nat.{ℕ, zero, suc, ◌+◌, ◌*◌, ◌^◌, ◌<◌}
 use native.Mathlib.Omega.{arith}
+use Rattle.std.proofs.Common.{Option, Some, None}
 use borrow.Author.Tests.{lt-leb, ne_eqb}
 use lib.ListN.{length}
 use lib.Dec.{ltb, eqb}
 use lib.Ieee.{Float, inf, is_nan, Format, prec, emax, low, round, units, odd}
-use Rattle.numbers.proofs.Branches.{if_true, if_false, if_when}
+use Rattle.numbers.proofs.Branches.{if_when}
 use Rattle.samples.specs.declared.Samples.{Samples}
 use Rattle.samples.specs.Keep.{ends_of}
 use Rattle.samples.specs.declared.Ends.{Ends}
-use Rattle.samples.specs.declared.Ends.TheVariants.{Few, Both}
 use Rattle.timeline.specs.Drift.{ppm_of, drift_through_of, drift_of}
 use Rattle.bridge.specs.State.{Lawful}
 use Rattle.bridge.specs.Table.{samples_at}
@@ -23,14 +23,13 @@ use Rattle.bridge.specs.Drift.{drift_at}
 use Rattle.bridge.specs.declared.Bridge.{Bridge}
 use Rattle.bridge.proofs.Ranking.{chosen_head}
 use Rattle.answer.specs.Answer.{Answer, says, refused_line, done_says}
-use Rattle.forms.specs.Form.{no_form}
 use Rattle.forms.specs.Value.{byte_in}
 use Rattle.forms.specs.declared.Form.{Form}
 use Rattle.replay_grammar.specs.Row.{letter_s, letter_p, letter_v, letter_l, letter_o, letter_r, letter_a, letter_c, letter_t, letter_k}
-use Rattle.replay_grammar.specs.Line.{asks_by, longest_line, may_be_line, letter_of, form_in, form_for, asks}
+use Rattle.replay_grammar.specs.Line.{asks_by, longest_line, may_be_line, letter_of, form_for, asks}
 use Rattle.replay_grammar.proofs.LineLaws.{SetupLetter, form_some, asks_letter}
 use Rattle.replay_setup.specs.Argument.{setup_in}
-use Rattle.replay_calls.specs.Answer.{chosen_text, IsNumber, asked_text, call_of, answer_of}
+use Rattle.replay_calls.specs.Answer.{chosen_text, IsNumber, asked_text, call_of, answer_with, answer_of}
 
 -- ---- a drift is a number
 
@@ -56,9 +55,9 @@ samples_number : (s : Samples) → IsNumber (drift_of s)
 unfolding drift_of ppm_of
 samples_number s = by (ends_of s)
   where
-    by : (e : Ends) → IsNumber (drift_through_of e)
-    by Few = tt
-    by (Both a b) = rw round_number tt
+    by : (e : Option Ends) → IsNumber (drift_through_of e)
+    by None = tt
+    by (Some e) = rw round_number tt
 
 pub drift_number : (b : Bridge) (p : ℕ) → IsNumber (drift_at b p)
 unfolding drift_at
@@ -91,39 +90,28 @@ unfolding call_of asks_by
 call_asks letter b f =
     asks_other (eqb letter letter_s) _ _ _ (asks_other (eqb letter letter_p) _ _ _ (asks_other (eqb letter letter_v) _ _ _ (asks_other (eqb letter letter_l) _ _ _ (asks_other (eqb letter letter_o) _ _ _ (asks_other (eqb letter letter_r) _ _ _ (asks_other (eqb letter letter_a) _ _ _ (asks_other (eqb letter letter_t) _ _ _ (λ e. refl))))))))
 
--- what a form is answered with: where it is good, the letter's call
-abbrev answer_with : Bridge → List ℕ → Form → Answer
-answer_with b s f = cond f.good (call_of (letter_of s) b f) (refused_line b)
+module _ (b : Bridge) (s : List ℕ) where
+  pub answer_call : {f : Form} → Some f ≡ form_for s → call_of (letter_of s) b f ≡ answer_of b s
+  unfolding answer_of
+  answer_call e = ap (answer_with b (letter_of s)) e
 
-answer_form : (b : Bridge) (s : List ℕ) → answer_with b s (form_for s) ≡ answer_of b s
-unfolding form_for answer_of
-answer_form b s = by (may_be_line s)
-  where
-    by : (t : Bool) → answer_with b s (cond t (form_in s) no_form) ≡ cond t (answer_with b s (form_in s)) (refused_line b)
-    by true = refl
-    by false = refl
-
-module _ (b : Bridge) (s : List ℕ) {f : Form} (e : f ≡ form_for s) where
-  pub answer_call : f.good ≡ true → call_of (letter_of s) b f ≡ answer_of b s
-  answer_call g = if_true f.good _ _ g ∙ ap (answer_with b s) e ∙ answer_form b s
-
-  pub answer_bad : f.good ≡ false → refused_line b ≡ answer_of b s
-  answer_bad g = if_false f.good _ _ g ∙ ap (answer_with b s) e ∙ answer_form b s
+  pub answer_bad : None ≡ form_for s → refused_line b ≡ answer_of b s
+  unfolding answer_of
+  answer_bad e = ap (answer_with b (letter_of s)) e
 
   -- of a line that asks, what the letter's question prints
-  pub answer_asked : asks s ≡ true → f.good ≡ true → says b (asked_text (letter_of s) b f) ≡ answer_of b s
-  answer_asked a g = sym (call_asks (letter_of s) b f (asks_letter s (form_some s e g) ∙ a)) ∙ answer_call g
+  pub answer_asked : {f : Form} → asks s ≡ true → Some f ≡ form_for s → says b (asked_text (letter_of s) b f) ≡ answer_of b s
+  answer_asked {f} a e = sym (call_asks (letter_of s) b f (asks_letter s (form_some s e) ∙ a)) ∙ answer_call e
 
 -- a line that asks leaves the state as it is
 pub asks_stays : (b : Bridge) (s : List ℕ) → asks s ≡ true → (answer_of b s).next ≡ b
-asks_stays b s a =
-    by (form_for s).good refl
+asks_stays b s a = by (form_for s) refl
   where
-    by : (t : Bool) → (form_for s).good ≡ t → (answer_of b s).next ≡ b
-    by true g = ap (λ (x : Answer). x.next) (sym (answer_asked b s refl a g))
-    by false g = ap (λ (x : Answer). x.next) (sym (answer_bad b s refl g))
+    by : (form : Option Form) → form ≡ form_for s → (answer_of b s).next ≡ b
+    by (Some f) e = ap (λ (x : Answer). x.next) (sym (answer_asked b s a e))
+    by None e = ap (λ (x : Answer). x.next) (sym (answer_bad b s e))
 
 -- a text that is longer than any line is none
 pub answer_long : (b : Bridge) (s : List ℕ) → longest_line < length s → refused_line b ≡ answer_of b s
-unfolding answer_of may_be_line
+unfolding answer_of form_for may_be_line
 answer_long b s h = rw (ne_eqb (length s) 0 (λ e. omega arith), lt-leb (length s) longest_line h) refl

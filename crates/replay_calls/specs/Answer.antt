@@ -1,15 +1,19 @@
 -- What a line is answered with.
-use Rattle.std.specs.Prelude.{ℕ, not, cond, List, length, take, T, eqb}
+use Rattle.std.specs.Prelude.{ℕ, not, cond, List, length, take, T, eqb, Option, Some, None, Result, Ok, Err, ⊤}
 use Rattle.std.specs.Float.Ieee.{is_nan, to_bits}
 use Rattle.std.specs.Float.{binary64}
 use Rattle.numbers.specs.Bytes.{number_bytes}
+use Rattle.refusals.specs.Refusals.{done, number_of}
+use Rattle.refusals.specs.Answer.{answer_number}
+use Rattle.refusals.specs.declared.Refusal.{Refusal}
+use Rattle.times.specs.declared.GrandTime.{GrandTime}
 use Rattle.timeline.specs.Drift.{drift_no}
 use Rattle.timeline.specs.declared.Drift.{Drift}
 use Rattle.timeline.specs.declared.Drift.TheVariants.{NoReading, PartsPerMillion, Refused as no_clock}
 use Rattle.choice.specs.Choose.{shown_port, shown_hop}
 use Rattle.choice.specs.declared.Candidate.{Candidate}
 use Rattle.bridge.specs.Setup.{setup_of}
-use Rattle.bridge.specs.Links.{links_of, link_no, link_count}
+use Rattle.bridge.specs.Links.{links_of}
 use Rattle.bridge.specs.Own.{own_clock_of}
 use Rattle.bridge.specs.Receive.{receive_of}
 use Rattle.bridge.specs.Age.{age_of}
@@ -19,33 +23,28 @@ use Rattle.bridge.specs.Send.{send_of, send_bytes}
 use Rattle.bridge.specs.Drift.{drift_at}
 use Rattle.bridge.specs.declared.Bridge.{Bridge}
 use Rattle.bridge.specs.declared.Done.{Done}
-use Rattle.bridge.specs.declared.Linked.{Linked}
-use Rattle.bridge.specs.declared.LinkCount.{LinkCount}
-use Rattle.bridge.specs.declared.LinkCount.TheVariants.{Refused as beyond, Up}
-use Rattle.recorder.specs.Stamp.{stamp_of, stamp_no}
-use Rattle.recorder.specs.declared.Stamped.{Stamped}
-use Rattle.recorder.specs.declared.Stamped.TheVariants.{At, Refused as unstamped}
+use Rattle.recorder.specs.Stamp.{stamp_of}
 use Rattle.columns.specs.Columns.{line1, line2, line_with, line_time}
 use Rattle.forms.specs.Form.{number_in}
 use Rattle.forms.specs.Value.{byte_in, size_in}
 use Rattle.forms.specs.declared.Form.{Form}
 use Rattle.answer.specs.Answer.{Answer, says, refused_line, done_says}
 use Rattle.replay_grammar.specs.Row.{letter_s, letter_p, letter_v, letter_l, letter_o, letter_r, letter_a, letter_c, letter_t, letter_d, letter_e, letter_k}
-use Rattle.replay_grammar.specs.Line.{may_be_line, letter_of, form_in}
+use Rattle.replay_grammar.specs.Line.{letter_of, form_for}
 use Rattle.replay_frames.specs.Frames.{untouched, plain_text}
 use Rattle.replay_setup.specs.Argument.{setup_in}
 
 -- ---- the calls that change the state
 
-abbrev pub link_text : LinkCount → List ℕ
-link_text beyond = line1 (link_no beyond)
-link_text (Up n) = line2 (link_no (Up n)) (link_count (Up n))
+abbrev pub link_text : Result ℕ Refusal → List ℕ
+link_text (Ok n) = line2 done n
+link_text (Err refusal) = line1 (number_of refusal)
 
-abbrev pub linked_says : Linked → Answer
+abbrev pub linked_says : Done ℕ → Answer
 linked_says l = says l.next (link_text l.answer)
 
-abbrev pub sent_says : Done → List ℕ → Answer
-sent_says d bytes = says d.next (line_with d.answer bytes)
+abbrev pub sent_says : Done ⊤ → List ℕ → Answer
+sent_says d bytes = says d.next (line_with (answer_number d.answer) bytes)
 
 unfoldable pub send_says : Bridge → ℕ → ℕ → List ℕ → Answer
 send_says b port t out = sent_says (send_of b port t (length out)) (send_bytes b port t out)
@@ -53,7 +52,7 @@ send_says b port t out = sent_says (send_of b port t (length out)) (send_bytes b
 -- ---- the calls that leave the state as it is
 
 -- of C and K: port and held hop
-abbrev pub chosen_text : Candidate → List ℕ
+abbrev pub chosen_text : Option Candidate → List ℕ
 chosen_text choice = line2 (shown_port choice) (shown_hop choice)
 
 -- a drift in parts per million is a number
@@ -67,9 +66,9 @@ drift_text no_clock = line1 (drift_no no_clock)
 drift_text NoReading = line1 (drift_no NoReading)
 drift_text (PartsPerMillion x) = line_with (drift_no (PartsPerMillion x)) (number_bytes 8 (to_bits binary64 x))
 
-abbrev pub stamp_text : Stamped → List ℕ
-stamp_text (At g) = line_time (stamp_no (At g)) g.0 g.1
-stamp_text (unstamped k) = line1 (stamp_no (unstamped k))
+abbrev pub stamp_text : Result GrandTime Refusal → List ℕ
+stamp_text (Ok g) = line_time done g.0 g.1
+stamp_text (Err refusal) = line1 (number_of refusal)
 
 -- ---- the letter's call
 
@@ -96,5 +95,9 @@ call_of letter b f =
     (says b (asked_text letter b f)))))))))
 
 -- a line is answered by its letter's call, where its fields are those that the letter wants
+abbrev pub answer_with : Bridge → ℕ → Option Form → Answer
+answer_with b letter None = refused_line b
+answer_with b letter (Some f) = call_of letter b f
+
 unfoldable pub answer_of : Bridge → List ℕ → Answer
-answer_of b s = cond (may_be_line s) (cond (form_in s).good (call_of (letter_of s) b (form_in s)) (refused_line b)) (refused_line b)
+answer_of b s = answer_with b (letter_of s) (form_for s)

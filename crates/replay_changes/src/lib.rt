@@ -18,8 +18,9 @@ ghost use Rattle.replay_setup.specs.Argument.{setup_in};
 ghost use Rattle.replay_calls.specs.Answer.{link_text, linked_says, send_says};
 
 use answer::Answered;
-use bridge::{Bridge, LinkCount};
+use bridge::Bridge;
 use forms::{Form, value};
+use refusals::Refusal;
 
 // `S n mac prec capable timeout back d1 .. d8`, `P` with the same fields, or `V listener n mac prec capable timeout back d1 .. d8 versions`.
 pub fn setup(letter: u8, form: Form, out: &mut [u8]) -> Answered
@@ -30,13 +31,13 @@ pub fn setup(letter: u8, form: Form, out: &mut [u8]) -> Answered
 }
 
 // Prints what Links answers.
-fn link_count(answer: LinkCount, out: &mut [u8]) -> usize
+fn link_count(answer: Result<u8, Refusal>, out: &mut [u8]) -> usize
     requires { longest_answer ≤ length out.old }
     ensures { Prints (link_text answer) result out.old out.new }
 {
     match answer {
-        LinkCount::Refused => columns::one(out, refusals::OUT_OF_RANGE),
-        LinkCount::Up(n) => columns::two(out, refusals::DONE, n),
+        Ok(n) => columns::two(out, refusals::DONE, n),
+        Err(refusal) => columns::one(out, u8::from(refusal)),
     }
 }
 
@@ -47,11 +48,9 @@ pub fn links(b: Bridge, form: Form, out: &mut [u8]) -> Answered
     ensures { Says (linked_says (links_of b (byte_in form 0))) result out.old out.new }
 {
     let linked = bridge_links::links(b, value::byte(form, 0));
-    let answer = linked.answer;
-    let next = linked.next;
     Answered {
-        next: next,
-        len: link_count(answer, out),
+        next: linked.next,
+        len: link_count(linked.answer, out),
     }
 }
 
@@ -77,9 +76,8 @@ pub fn receive(b: Bridge, form: Form, out: &mut [u8]) -> Answered
 {
     let port = value::byte(form, 0);
     let n = value::size(form, 2);
-    let bytes = form.bytes;
     answer::done(
-        bridge_receive::receive(b, port, &bytes[..n], form.numbers[1]),
+        bridge_receive::receive(b, port, &form.bytes[..n], form.numbers[1]),
         out,
     )
 }
@@ -94,6 +92,7 @@ pub fn age(b: Bridge, form: Form, out: &mut [u8]) -> Answered
 }
 
 // Send into an output of at most 128 bytes.
+#[tactic(auto, unfolding(replay_calls::specs::Answer::send_says))]
 fn sent(b: Bridge, port: u8, t: u64, frame: &mut [u8], out: &mut [u8]) -> Answered
     requires lawful { Lawful b }
     requires frame_len_bound { length frame.old ≤ most_length }
@@ -101,10 +100,9 @@ fn sent(b: Bridge, port: u8, t: u64, frame: &mut [u8], out: &mut [u8]) -> Answer
     ensures { Says (send_says b port t frame.old) result out.old out.new }
 {
     let done = bridge_send::send(b, port, t, frame);
-    let next = done.next;
     Answered {
-        next: next,
-        len: columns::with_bytes(out, done.answer, frame),
+        next: done.next,
+        len: columns::with_bytes(out, refusals::number(done.answer), frame),
     }
 }
 

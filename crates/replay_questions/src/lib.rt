@@ -18,11 +18,12 @@ ghost use Rattle.replay_calls.specs.Answer.{chosen_text, IsNumber, drift_text, s
 use bridge::Bridge;
 use choice::Candidate;
 use forms::{Form, value};
-use recorder::Stamped;
+use refusals::Refusal;
 use timeline::Drift;
+use times::GrandTime;
 
 // Prints the port and the held hop of a candidate.
-fn shown(candidate: Candidate, out: &mut [u8]) -> usize
+fn shown(candidate: Option<Candidate>, out: &mut [u8]) -> usize
     requires { longest_answer ≤ length out.old }
     ensures { Prints (chosen_text candidate) result out.old out.new }
 {
@@ -67,13 +68,14 @@ fn rate(drift: Drift, out: &mut [u8]) -> usize
     ensures { Prints (drift_text drift) result out.old out.new }
 {
     match drift {
-        Drift::Refused => columns::one(out, refusals::OUT_OF_RANGE),
+        Drift::Refused => columns::one(out, u8::from(Refusal::OutOfRange)),
         Drift::NoReading => columns::one(out, refusals::DONE),
         Drift::PartsPerMillion(x) => bits(x, out),
     }
 }
 
 // `D port`.
+#[tactic(auto, using(replay_calls::proofs::AnswerLaws::drift_number))]
 pub fn drift(b: Bridge, form: Form, out: &mut [u8]) -> usize
     requires lawful { Lawful b }
     requires longest_answer_in_bounds { longest_answer ≤ length out.old }
@@ -83,13 +85,13 @@ pub fn drift(b: Bridge, form: Form, out: &mut [u8]) -> usize
 }
 
 // Prints a stamp after the answer 0, or the refusal.
-fn stamped(stamp: Stamped, out: &mut [u8]) -> usize
+fn stamped(stamp: Result<GrandTime, Refusal>, out: &mut [u8]) -> usize
     requires { longest_answer ≤ length out.old }
     ensures { Prints (stamp_text stamp) result out.old out.new }
 {
     match stamp {
-        Stamped::At(time) => columns::with_time(out, refusals::DONE, time.0, time.1),
-        Stamped::Refused(no) => columns::one(out, no),
+        Ok(time) => columns::with_time(out, refusals::DONE, time.0, time.1),
+        Err(refusal) => columns::one(out, u8::from(refusal)),
     }
 }
 
