@@ -13,17 +13,19 @@ ghost use Rattle.replay_calls.specs.Answer.{asked_text, call_of, answer_of};
 use answer::Answered;
 use bridge::Bridge;
 use forms::Form;
+use refusals::Refusal;
 
 // The bridge before the first line: what a refused Setup hands back.
+#[tactic(auto, using(bridge::proofs::StateLaws::setup_refused), unfolding(bridge::specs::Fits::setup_fits, bridge::specs::Fits::profile_fits, bridge::specs::Fits::ranges_fit))]
 pub fn start() -> Bridge
     ensures value { result ≡ no_bridge }
     ensures lawful { Lawful result }
 {
-    let refused = bridge_setup::setup(bridge_setup::plain_setup(0, 0, 0));
-    refused.next
+    bridge_setup::setup(bridge_setup::plain_setup(0, 0, 0)).next
 }
 
 // A letter whose call leaves the state as it is: the questions to the bridge, and then the plain lines.
+#[tactic(auto, unfolding(replay_calls::specs::Answer::asked_text))]
 fn asked(b: Bridge, letter: u8, form: Form, out: &mut [u8]) -> usize
     requires lawful { Lawful b }
     requires bytes_len { length form.bytes ≡ buffer_bytes }
@@ -40,20 +42,21 @@ fn asked(b: Bridge, letter: u8, form: Form, out: &mut [u8]) -> usize
 }
 
 // What is printed in out for a text that asks.
+#[tactic(auto, using(replay_grammar::proofs::LineLaws::form_some, replay_calls::proofs::AnswerLaws::answer_asked, replay_calls::proofs::AnswerLaws::answer_bad))]
 pub fn asked_line(b: Bridge, text: &[u8], out: &mut [u8]) -> usize
     requires lawful { Lawful b }
     requires text_value { asks text.now ≡ true }
     requires longest_answer_in_bounds { longest_answer ≤ length out.old }
     ensures { Prints (answer_of b text.now).text result out.old out.new }
 {
-    let form = replay_grammar::form(text);
-    if !form.good {
-        return columns::one(out, refusals::BAD_LINE);
-    }
+    let Some(form) = replay_grammar::form(text) else {
+        return columns::one(out, u8::from(Refusal::BadLine));
+    };
     asked(b, text[0], form, out)
 }
 
 // A letter whose call changes the state, with what its fields say; of these letters Setup's, S, P and V, are left to the last arm.
+#[tactic(auto, using(replay_calls::proofs::AnswerLaws::call_setup, replay_grammar::proofs::LineLaws::setup_letter), unfolding(replay_calls::specs::Answer::call_of))]
 fn call(b: Bridge, letter: u8, form: Form, out: &mut [u8]) -> Answered
     requires lawful { Lawful b }
     requires letter_value { asks_by letter ≡ false }
@@ -72,15 +75,15 @@ fn call(b: Bridge, letter: u8, form: Form, out: &mut [u8]) -> Answered
 }
 
 // The state after a line that does not ask, and what is printed for it in out.
+#[tactic(auto, using(replay_grammar::proofs::LineLaws::form_some, replay_grammar::proofs::LineLaws::asks_letter, replay_calls::proofs::AnswerLaws::answer_call, replay_calls::proofs::AnswerLaws::answer_bad))]
 pub fn answer_line(b: Bridge, text: &[u8], out: &mut [u8]) -> Answered
     requires lawful { Lawful b }
     requires text_value { asks text.now ≡ false }
     requires longest_answer_in_bounds { longest_answer ≤ length out.old }
     ensures { Says (answer_of b text.now) result out.old out.new }
 {
-    let form = replay_grammar::form(text);
-    if !form.good {
+    let Some(form) = replay_grammar::form(text) else {
         return answer::refused(b, out);
-    }
+    };
     call(b, text[0], form, out)
 }
