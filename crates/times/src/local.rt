@@ -17,7 +17,7 @@ pub fn around(a: u64, b: u64, circle: u64) -> u64
     requires { (0 < circle) × (2 ^ 64 % circle ≡ 0) }
     ensures { result ≡ around_of a b circle }
 {
-    std::num::wrapping_sub_u64(a, b) % circle
+    a.wrapping_sub(b) % circle
 }
 
 // a - b, the way round the circle from b to a.
