@@ -209,8 +209,8 @@ unfoldable pub along : {A : Type 0} → (Bridge → Call → A → A) → Bridge
 along step b [] x = x
 along step b (c ∷ cs) x = along step (after b c) cs (step b c x)
 
--- how many sends of the port at index i used a frameCount since its link came up: none once its link goes down, one more with
--- each send that is refused by its number alone no more
+-- how many sends of the port at index i used a frameCount since its link came up: none once its link goes down, and one more with
+-- each send that is not refused with 2 to 4, which its arguments, the link and the room decide
 abbrev pub used_by : ℕ → Bridge → Call → ℕ → ℕ
 used_by i b (links mask) n = cond (mask_beyond b.setup.n mask) n (cond (loses_link b.links mask i) 0 n)
 used_by i b (own_clock count byte seconds fraction at) n = n
