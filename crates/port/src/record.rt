@@ -1,5 +1,5 @@
 // Records that are empty, and that lose what is too old.
-ghost use Rattle.std.specs.Prelude.{◌≡◌, true, cond};
+ghost use Rattle.std.specs.Prelude.{◌≡◌};
 ghost use Rattle.port.specs.Record.{empty_port, empty_clock, too_old, aged_port};
 
 use crate::{OwnClock, Port};
@@ -32,17 +32,10 @@ pub fn empty_clock() -> OwnClock
 }
 
 // Whether an announcement is as old as the timeout.
-fn too_old(announcement: Option<Announcement>, at: LocalTime, timeout: u64) -> bool
+pub fn too_old(announcement: Option<Announcement>, at: LocalTime, timeout: u64) -> bool
     ensures { result ≡ too_old announcement at timeout }
 {
     announcement.is_some_and(|held| timeout <= local::since(at, held.heard_at))
-}
-
-// Whether an announcement as old as the timeout was found before, or is in this record.
-pub fn finds_old(found: bool, port: Port, at: LocalTime, timeout: u64) -> bool
-    ensures { result ≡ cond found true (too_old port.announcement at timeout) }
-{
-    found || too_old(port.announcement, at, timeout)
 }
 
 // The record without announcement, samples and echo, where the announcement is as old as the timeout.
