@@ -31,25 +31,10 @@ use Rattle.frame.specs.declared.Winner.TheVariants.{First, Second}
 
 -- ---- a chain of tests that gives a number
 
--- a test that holds leaves the answer to the rest
-pub past : (b : Bool) (k : ℕ) {m n : ℕ} → b ≡ true → m ≡ n → m ≡ unless b k n
-past true k h e = e
-past false k h e = absurd (false≢true h)
-
--- a test that fails answers
-pub stopped : (b : Bool) (k n : ℕ) → b ≡ false → k ≡ unless b k n
-stopped true k n h = absurd (true≢false h)
-stopped false k n h = refl
-
 -- where no refusal is given, the test held and the rest gave none
 pub none : (b : Bool) (k n : ℕ) → unless b (suc k) n ≡ 0 → (b ≡ true) × (n ≡ 0)
 none true k n e = (refl, e)
 none false k n e = absurd (omega arith)
-
--- what holds of a refusal and of what is answered else holds either way
-pub unless_is : (P : ℕ → Type 0) (t : Bool) {k n : ℕ} → P k → P n → P (unless t k n)
-unless_is P true p q = q
-unless_is P false p q = p
 
 -- ---- a chain of tests that gives an answer
 
@@ -261,7 +246,7 @@ untouched f k out e = ap (λ r. written_as r f out) e
 
 -- ---- better
 
--- what is refused loses; what is read loses with the last hop, and stands by its precedence and hop with another
+-- what is refused loses; what is read stands by its precedence and hop where its hop is not the last
 pub refused_loses : (s : List ℕ) (k : Refusal) → Err k ≡ read_of s → None ≡ standing_of s
 unfolding standing_of
 refused_loses s k e = ap standing_by e
@@ -273,9 +258,6 @@ stands f = Some (record { precedence = f.precedence; hop = f.hop })
 by_hop : (s : List ℕ) (f : Fields) → Ok f ≡ read_of s → {b : Bool} → b ≡ eqb f.hop last_hop → cond b None (stands f) ≡ standing_of s
 unfolding standing_of
 by_hop s f e q = ap (λ (t : Bool). cond t None (stands f)) q ∙ ap standing_by e
-
-pub last_loses : (s : List ℕ) (f : Fields) → Ok f ≡ read_of s → f.hop ≡ last_hop → None ≡ standing_of s
-last_loses s f e h = by_hop s f e (sym (eq-eqb _ _ h))
 
 pub other_stands : (s : List ℕ) (f : Fields) → Ok f ≡ read_of s → (f.hop ≡ last_hop → ⊥) → stands f ≡ standing_of s
 other_stands s f e h = by_hop s f e (sym (ne_eqb _ _ h))

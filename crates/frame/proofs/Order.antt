@@ -6,7 +6,6 @@ use Prim.Native.Nat.{ℕ, ◌^◌}
 use lib.ListN.{length}
 use Rattle.std.proofs.Common.{Result, Ok, Err}
 use Rattle.std.specs.Bool.{⊤}
-use Rattle.refusals.specs.Chain.{unless}
 use Rattle.refusals.specs.Refusals.{number_of}
 use Rattle.refusals.specs.Answer.{answer_number, granted, require}
 use Rattle.refusals.specs.declared.Refusal.{Refusal}
@@ -22,13 +21,6 @@ use Rattle.frame.specs.declared.Fields.{Fields}
 use Rattle.refusals.proofs.Order.{Fails, first_lowest, same_number, less_fails, most_fails, same_fails, both_fail}
 
 -- a refusal where the test fails, and else the rest
-pub first_unless : {t : Bool} {P : Type 0} {cs : List Condition} {k j : ℕ} → Fails t P → First j cs → First (unless t k j) (given k P ∷ cs)
-first_unless {t} {P} {cs} {k} {j} d f = by t refl where
-  by : (s : Bool) → t ≡ s → First (unless s k j) (given k P ∷ cs)
-  by true e = later _ _ (d.not e) f
-  by false e = here _ _ (d.is e) refl
-
--- the same of a chain that gives an answer
 pub first_require : {A : Type 0} {t : Bool} {P : Type 0} {cs : List Condition} (k : Refusal) (rest : Result A Refusal) → Fails t P → First (answer_number rest) cs
     → First (answer_number (require t k rest)) (given (number_of k) P ∷ cs)
 first_require {t = t} {P = P} {cs = cs} k rest d f = by t refl where

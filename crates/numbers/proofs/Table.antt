@@ -1,72 +1,14 @@
--- Laws of a table of widths: how far a walk from its last row has come, and that taking apart and putting together undo each other.
+-- Laws of a table of widths: taking apart and putting together undo each other.
 use mathlib.Core.Path.{◌≡◌, refl, sym, ap, ◌∙◌}
 use mathlib.Core.List.{List, [], ◌∷◌, ◌++◌, append_assoc}
-use Prim.Native.Nat.{ℕ, zero, suc, ◌+◌, ◌-◌, ◌^◌, ◌<◌, ◌≤◌, max}
+use Prim.Native.Nat.{ℕ, zero, suc, ◌+◌, ◌^◌, ◌<◌, ◌≤◌, max}
 use native.Mathlib.Nat.{le_trans, le-max_left, le-max_right}
-use native.Mathlib.Numerals.{sub-one}
 use native.Mathlib.Omega.{arith}
-use lib.ListN.{length, take, drop, get_or, set, length-append, length-drop}
-use lib.Seq.{drop-cons, take-append-le, take-take, take-add, drop-drop, take_at, drop_at, length-take-le}
-use Rattle.numbers.specs.Bytes.{number_at, number_bytes, spliced, Bytes}
+use lib.ListN.{length, take, drop, get_or, length-append, length-drop}
+use lib.Seq.{take-add, drop-drop, take_at, drop_at}
+use Rattle.numbers.specs.Bytes.{number_at, number_bytes, Bytes}
 use Rattle.numbers.specs.Table.{total, parted, joined, Held}
-use Rattle.numbers.proofs.Places.{bytes_drop, bytes_append, digits_bytes, put_next, length_digits, value_digits, digits_value, number_at_small}
-
--- ---- one row, from the end
-
--- the rest of a list from the place before k on
-drop_before : (xs : List ℕ) (k : ℕ) → 0 < k → k ≤ length xs → drop (k - 1) xs ≡ get_or xs (k - 1) 0 ∷ drop k xs
-drop_before xs zero p h = absurd (omega arith)
-drop_before xs (suc j) p h = let l : j < length xs = omega arith in rw (sub-one, drop-cons xs j 0)
-
--- the same once that place is filled
-drop_filled : (xs : List ℕ) (v k : ℕ) → 0 < k → k ≤ length xs → drop (k - 1) (set xs (k - 1) v) ≡ v ∷ drop k xs
-drop_filled xs v zero p h = absurd (omega arith)
-drop_filled xs v (suc j) p h = let l : j < length xs = omega arith in rw (sub-one, put_next)
-
-total_drop : (ws : List ℕ) (k : ℕ) → total (drop k ws) ≤ total ws
-total_drop ws zero = omega arith
-total_drop [] (suc k) = omega arith
-total_drop (w ∷ ws) (suc k) = omega (arith, total_drop ws k)
-
--- where the rows from k on take the bytes from a on: the row before k takes the bytes before a
-module _ (ws : List ℕ) (a k : ℕ) (p : 0 < k) (h : k ≤ length ws) (e : a + total (drop k ws) ≡ total ws) where
-  total_step : total (drop (k - 1) ws) ≡ get_or ws (k - 1) 0 + total (drop k ws)
-  total_step = ap total (drop_before ws k p h)
-
-  pub row_room : get_or ws (k - 1) 0 ≤ a
-  row_room = omega (arith, total_step, total_drop ws (k - 1))
-
-  pub row_end : (a - get_or ws (k - 1) 0) + total (drop (k - 1) ws) ≡ total ws
-  row_end = omega (arith, total_step, row_room)
-
-  -- its number, taken out
-  pub parted_step : (vs s : List ℕ) (v : ℕ) → k ≤ length vs → v ≡ number_at s (a - get_or ws (k - 1) 0) (get_or ws (k - 1) 0)
-      → drop k vs ≡ parted (drop k ws) a s
-      → drop (k - 1) (set vs (k - 1) v) ≡ parted (drop (k - 1) ws) (a - get_or ws (k - 1) 0) s
-  unfolding parted
-  parted_step vs s v l q r =
-      let back : a ≡ (a - get_or ws (k - 1) 0) + get_or ws (k - 1) 0 = omega (arith, row_room) in
-      rw (drop_filled vs v k p l, drop_before ws k p h)
-      (λ i. q i ∷ (r ∙ ap (λ (b : ℕ). parted (drop k ws) b s) back) i)
-
-  pub held_step : (vs : List ℕ) (v : ℕ) → k ≤ length vs → v < 256 ^ get_or ws (k - 1) 0
-      → Held (drop k ws) (drop k vs) → Held (drop (k - 1) ws) (drop (k - 1) (set vs (k - 1) v))
-  held_step vs v l f r = rw (drop_filled vs v k p l, drop_before ws k p h) (f, r)
-
-  -- its number, put in
-  pub joined_step : (vs t xs : List ℕ) → k ≤ length vs → a ≤ length xs
-      → spliced (take a xs ++ joined (drop k ws) (drop k vs) t) (a - get_or ws (k - 1) 0) (get_or ws (k - 1) 0) (get_or vs (k - 1) 0)
-      ≡ take (a - get_or ws (k - 1) 0) xs ++ joined (drop (k - 1) ws) (drop (k - 1) vs) t
-  unfolding joined
-  joined_step vs t xs l r =
-      let w = get_or ws (k - 1) 0 in
-      let back : (a - w) + w ≡ a = omega (arith, row_room) in
-      let m : a - w ≤ a = omega arith in
-      let n : length (take a xs) ≡ a = length-take-le a xs r in
-      let o : a - w ≤ length (take a xs) = omega arith in
-      rw (drop_before ws k p h, drop_before vs k p l, take-append-le, take-take, back, drop_at (take a xs) (joined (drop k ws) (drop k vs) t) a n)
-
--- ---- the whole table
+use Rattle.numbers.proofs.Places.{bytes_drop, bytes_append, digits_bytes, length_digits, value_digits, digits_value, number_at_small}
 
 pub held_at : (ws vs : List ℕ) (k : ℕ) → Held ws vs → k < length ws → get_or vs k 0 < 256 ^ get_or ws k 0
 held_at [] vs k h l = absurd (omega arith)
