@@ -20,7 +20,7 @@ fn aged(b: &mut Bridge, at: u64) -> Result<(), Refusal>
         return Err(Refusal::OutOfRange);
     }
     let timeout = b.setup.timeout;
-    if b.ports.iter().any(|held| record::finds_old(false, *held, LocalTime(at), timeout)) {
+    if b.ports.iter().any(|held| record::too_old(held.announcement, LocalTime(at), timeout)) {
         for i in 0..PORTS {
             let after = record::aged(b.ports[i], LocalTime(at), timeout);
             choice_ranking::update(&mut b.ranking, after.announcement, (i + 1) as u8);
