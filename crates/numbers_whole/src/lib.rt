@@ -11,9 +11,9 @@ pub fn floor_div(z: i64, m: u64) -> i64
     ensures { result ≡ floor_div z m }
 {
     if z < 0 {
-        -1 - (((-1 - z) as u64 / m) as i64)
+        -1 - ((-1 - z).cast_unsigned() / m).cast_signed()
     } else {
-        (z as u64 / m) as i64
+        (z.cast_unsigned() / m).cast_signed()
     }
 }
 
@@ -30,21 +30,21 @@ pub fn nearest_div(z: i64, m: u64) -> i64
 pub fn abs(z: i64) -> u64
     ensures { result ≡ nat_abs z }
 {
-    if z < 0 { (-1 - z) as u64 + 1 } else { z as u64 }
+    z.unsigned_abs()
 }
 
 // Whether z is below zero.
 pub fn is_negative(z: i64) -> bool
     ensures { result ≡ lt_z z (pos 0) }
 {
-    z < 0
+    z.is_negative()
 }
 
 // The greater of 0 and z.
 pub fn at_least_zero(z: i64) -> u64
     ensures { result ≡ at_least_zero z }
 {
-    if z < 0 { 0 } else { z as u64 }
+    u64::try_from(z).unwrap_or(0)
 }
 
 // A number without a sign as one with a sign.
@@ -52,7 +52,7 @@ pub fn from_unsigned(x: u64) -> i64
     requires { x < 2 ^ 63 }
     ensures { result ≡ pos x }
 {
-    x as i64
+    x.cast_signed()
 }
 
 // a - b with its sign, for two numbers that have none.
@@ -60,7 +60,7 @@ pub fn difference(a: u64, b: u64) -> i64
     requires { (a < 2 ^ 63) × (b < 2 ^ 63) }
     ensures { result ≡ pos a -ℤ pos b }
 {
-    a as i64 - b as i64
+    a.cast_signed() - b.cast_signed()
 }
 
 // a + b.

@@ -1,12 +1,11 @@
 -- Laws of errorTime: its signed number and its 32 bits are each other's inverse, and a number has an errorTime exactly from -2^31 to 2^31 - 1.
 use Rattle.std.proofs.Common.{◌≡◌, ℕ, suc, ◌-◌, ◌^◌, ◌<◌, ◌≤◌, Bool, true, false, ltb, ℤ, pos, negsuc, ◌-ℤ◌, nat_abs, Option, Some, None, sym, refl, ap, ◌∙◌, arith, w32, of_z, ltb-false, ltb-true, le-ltb, lt-ltb}
-use lib.Signed.{mag, lt_z}
+use lib.Signed.{mag}
 use mir.Val.{sel}
 use mir.ValLaws.{to_z_pos, to_z-neg, to_z-Fits, to_z-of_z, of_z-to_z}
 use Rattle.times.specs.Times.{error_of, error_end, error_time_of}
 use Rattle.times.specs.declared.ErrorTime.{ErrorTime}
 use Rattle.numbers.proofs.Branches.{if_true, if_false, if_when}
-use Rattle.numbers.proofs.Machine.{is_neg, is_pos}
 use Rattle.numbers.proofs.Ring.{same, of_neg, minus_is}
 
 -- ---- the signed number and the bits
@@ -45,24 +44,6 @@ error_within z h = if_true _ _ _ (lt-ltb _ _ h)
 error_beyond : (z : ℤ) → error_end ≤ mag z → None ≡ error_time_of z
 unfolding error_time_of
 error_beyond z h = if_false _ _ _ (le-ltb _ _ h)
-
--- by the sign and the size n of the number
-module _ (z : ℤ) (n : ℕ) (size : n ≡ nat_abs z) where
-  pub under_within : lt_z z (pos 0) ≡ true → n ≤ error_end → Some (record { 0 = 2 ^ 32 - n }) ≡ error_time_of z
-  under_within under h =
-      let bits : 2 ^ 32 - n ≡ of_z w32 (negsuc (mag z)) = omega (arith, ap nat_abs (is_neg z under)) in
-      (λ i. Some (record { 0 = bits i })) ∙ ap (λ (y : ℤ). Some (record { 0 = of_z w32 y })) (sym (is_neg z under)) ∙ error_within z (omega (arith, ap nat_abs (is_neg z under)))
-
-  pub under_beyond : lt_z z (pos 0) ≡ true → error_end < n → None ≡ error_time_of z
-  under_beyond under h = error_beyond z (omega (arith, ap nat_abs (is_neg z under)))
-
-  pub above_within : lt_z z (pos 0) ≡ false → n < error_end → Some (record { 0 = n }) ≡ error_time_of z
-  above_within above h =
-      let bits : n ≡ of_z w32 (pos (mag z)) = omega (arith, ap nat_abs (is_pos z above)) in
-      (λ i. Some (record { 0 = bits i })) ∙ ap (λ (y : ℤ). Some (record { 0 = of_z w32 y })) (sym (is_pos z above)) ∙ error_within z (omega (arith, ap nat_abs (is_pos z above)))
-
-  pub above_beyond : lt_z z (pos 0) ≡ false → error_end ≤ n → None ≡ error_time_of z
-  above_beyond above h = error_beyond z (omega (arith, ap nat_abs (is_pos z above)))
 
 -- what holds of an errorTime with that number, and of None where the number is too large, holds of it
 pub error_is : (P : Option ErrorTime → Type 0) (z : ℤ) → ((e : ErrorTime) → e.0 < 2 ^ 32 → error_of e ≡ z → P (Some e)) → (error_end ≤ mag z → P None) → P (error_time_of z)
