@@ -40,7 +40,12 @@ use Rattle.bridge.proofs.Ranking.{ranked_before, ranked_behind}
 -- ---- what is handed back is as wanted, and so it is as promised
 
 pub out : (want got : Done ⊤) → got ≡ want → Lawful want.next → DonePromise want got
-out want got e l = record { answer = ap (λ (x : Done ⊤). x.answer) e; next = ap (λ (x : Done ⊤). x.next) e; lawful = rw e l }
+out want got e l = record {
+  answer = ap (λ (x : Done ⊤). x.answer) e;
+  number = ap (λ (x : Done ⊤). answer_number x.answer) e;
+  next = ap (λ (x : Done ⊤). x.next) e;
+  lawful = rw e l;
+}
 
 pub links_out : (b : Bridge) (mask : ℕ) (got : Done ℕ) → got ≡ links_of b mask → Lawful b → LinksPromise b mask got
 unfolding links_of
@@ -92,6 +97,7 @@ pub send_out : (b : Bridge) (port t : ℕ) (out left : List ℕ) (got : Done ⊤
     → SendPromise b port t out got left
 send_out b port t out left got e f l = record {
   answer = ap (λ (x : Done ⊤). x.answer) e;
+  number = ap (λ (x : Done ⊤). answer_number x.answer) e;
   next = ap (λ (x : Done ⊤). x.next) e;
   bytes = f;
   lawful = rw e (send_lawful b port t (length out) l);

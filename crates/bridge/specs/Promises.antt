@@ -23,9 +23,10 @@ use Rattle.bridge.specs.Demands.{candidates}
 use Rattle.bridge.specs.declared.Bridge.{Bridge}
 use Rattle.bridge.specs.declared.Done.{Done}
 
--- setup, own clock, receive and age: what the call's definition says
+-- setup, own clock, receive and age: what the call's definition says, and its number
 pub record DonePromise (want d : Done ⊤) : Type 0 where
   pub answer : d.answer ≡ want.answer
+  pub number : answer_number d.answer ≡ answer_number want.answer
   pub next : d.next ≡ want.next
   pub lawful : Lawful d.next
 
@@ -52,6 +53,7 @@ pub record RankedPromise (b : Bridge) (place : ℕ) (c : Option Candidate) : Typ
 -- send, with every byte of the output
 pub record SendPromise (b : Bridge) (port t : ℕ) (out : List ℕ) (d : Done ⊤) (left : List ℕ) : Type 0 where
   pub answer : d.answer ≡ (send_of b port t (length out)).answer
+  pub number : answer_number d.answer ≡ answer_number (send_of b port t (length out)).answer
   pub next : d.next ≡ (send_of b port t (length out)).next
   pub bytes : left ≡ send_bytes b port t out
   pub lawful : Lawful d.next

@@ -1,6 +1,7 @@
 -- A refusal leaves the output; else the frame fills its first 64 bytes.
-use Rattle.std.proofs.Common.{sym, ◌∙◌, length}
+use Rattle.std.proofs.Common.{sym, ap, ◌∙◌, length}
 use Rattle.std.proofs.lemmas.Result.{err_from_is_err_and}
+use Rattle.refusals.specs.Answer.{answer_number}
 use Rattle.frame.proofs.FrameLaws.{in_range, filled, untouched}
 use Rattle.frame_write.proofs.write.Goals as goal
 
@@ -14,10 +15,10 @@ returns-in_err-write_refusal c =
     let a = c.args in
     let p = err_from_is_err_and c.from_residual.result c.from_residual.ensures.1 in
     let e = sym c.in_err-write_refusal.was ∙ c.write_refusal.ensures in
-    rw (p.1, p.2) record { answer = e; bytes = untouched a.f _ a.out.now e }
+    rw (p.1, p.2) record { answer = e; number = ap answer_number e; bytes = untouched a.f _ a.out.now e }
 
 pub returns : goal.returns
 returns c =
     let a = c.args in
     let e = sym c.in_ok-write_refusal.was ∙ c.write_refusal.ensures in
-    record { answer = e; bytes = c.put.ensures ∙ filled a.f a.out.now e }
+    record { answer = e; number = ap answer_number e; bytes = c.put.ensures ∙ filled a.f a.out.now e }
