@@ -106,6 +106,7 @@ fn tell<E: Write>(course: Course, errors: &mut E) -> bool {
 }
 
 // Reads to the end of the input and answers its lines; a lost input or output stops it and is told.
+// The reads are counted by hand, since `Ending` says how many there were and `Stopped` speaks of them.
 pub fn run<R: Read, W: Write, E: Write>(
     program: Program,
     input: &mut R,
