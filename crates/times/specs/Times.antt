@@ -1,5 +1,5 @@
 -- Times: the circle of local time, grand time as one number, errorTime as a signed number, the count of frames.
-use Rattle.std.specs.Prelude.{ℕ, ◌+◌, ◌-◌, ◌*◌, ◌/◌, ◌%◌, ◌^◌, ◌<◌, cond, ◌&&◌, ℤ, pos, negsuc, nat_le, nat_lt, Option, Some, None}
+use Rattle.std.specs.Prelude.{Bool, ℕ, ◌+◌, ◌-◌, ◌*◌, ◌/◌, ◌%◌, ◌^◌, ◌<◌, cond, ◌&&◌, ℤ, pos, negsuc, nat_le, nat_lt, ltb, Option, Some, None}
 use Rattle.std.specs.Int.Signed.{mag}
 use Rattle.std.specs.Int.{w32}
 use Rattle.std.proofs.Common.{to_z, of_z}
@@ -18,6 +18,10 @@ second = 2 ^ 40
 -- where grand time ends: 40 bits of seconds and 40 bits of fraction
 abbrev pub grand_end : ℕ
 grand_end = 2 ^ 80
+
+-- a local time is on its circle
+abbrev pub is_on_circle : LocalTime → Bool
+is_on_circle t = ltb t.0 circle
 
 -- a - b, modulo n: the way from b to a round a circle of n
 abbrev pub around_of : ℕ → ℕ → ℕ → ℕ
@@ -43,6 +47,10 @@ grand_of n = record { 0 = n / second; 1 = n % second }
 pub record InRange (g : GrandTime) : Type 0 where
   pub seconds : g.0 < second
   pub fraction : g.1 < second
+
+-- and whether they do
+abbrev pub is_in_range : GrandTime → Bool
+is_in_range g = ltb g.0 second && ltb g.1 second
 
 -- the grand time of a whole number of units, where there is one: no less than 0, and below the end of grand time
 unfoldable pub moment_of : ℤ → Option GrandTime

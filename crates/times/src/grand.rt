@@ -1,6 +1,6 @@
-// Grand times as one number of units: the moment less than a second from one, and the rise from one to another.
+// Grand times: whether one is in range; and as one number of units, the moment less than a second from one, and the rise from one to another.
 ghost use Rattle.std.specs.Prelude.{◌≡◌, ◌+◌, ◌<◌, pos, ◌+ℤ◌, ◌-ℤ◌, unsigned_abs};
-ghost use Rattle.times.specs.Times.{second, units, InRange, moment_of, rise_within};
+ghost use Rattle.times.specs.Times.{second, units, InRange, is_in_range, moment_of, rise_within};
 
 use crate::GrandTime;
 
@@ -8,6 +8,13 @@ use crate::GrandTime;
 pub const SECOND: u64 = 0x100_0000_0000;
 
 const SECONDS_END: u64 = 0x100_0000_0000;
+
+// Whether seconds and fraction are in range.
+pub fn is_in_range(g: GrandTime) -> bool
+    ensures { result ≡ is_in_range g }
+{
+    g.0 < SECONDS_END && g.1 < SECOND
+}
 
 // The moment n after g, unless that reaches the end of grand time.
 pub fn later(g: GrandTime, n: u64) -> Option<GrandTime>

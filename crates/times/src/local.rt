@@ -1,6 +1,6 @@
 // Local times on their circle of 2^48 units, and the count of frames on its circle of 256.
 ghost use Rattle.std.specs.Prelude.{◌≡◌, ◌%◌, ◌^◌, ◌<◌};
-ghost use Rattle.times.specs.Times.{around_of, since_of, earlier_by, next_count};
+ghost use Rattle.times.specs.Times.{around_of, since_of, earlier_by, is_on_circle, next_count};
 
 use crate::LocalTime;
 
@@ -11,6 +11,13 @@ pub const CIRCLE: u64 = 0x1_0000_0000_0000;
 const COUNTS: u64 = 256;
 
 const LAST_COUNT: u64 = 255;
+
+// Whether a local time is one of its circle's.
+pub fn is_on_circle(t: LocalTime) -> bool
+    ensures { result ≡ is_on_circle t }
+{
+    t.0 < CIRCLE
+}
 
 // a - b, the way round a circle from b to a: the machine's circle of 2^64 is a multiple of it.
 pub fn around(a: u64, b: u64, circle: u64) -> u64
