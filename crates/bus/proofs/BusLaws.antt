@@ -6,10 +6,10 @@ use native.Mathlib.Nat.{lt_of_not-le}
 use native.Mathlib.Omega.{arith}
 use borrow.Author.Tests.{lt-ltb, ltb-true, ltb-false, eqb-true, eqb-false}
 use lib.Dec.{ltb, eqb}
-use Rattle.times.specs.Times.{second, units, InRange}
+use Rattle.times.specs.Times.{second, units, InRange, is_in_range}
 use Rattle.times.specs.Parts.{least_of, LeastInPart}
 use Rattle.times.specs.declared.GrandTime.{GrandTime}
-use Rattle.bus.specs.Bus.{bus_seconds, second_cycles, cycle_ticks, second_ticks, is_grand, is_bus, tick_of, bus_time_of, tick_at, start_of, ahead_of, own_second, next_of}
+use Rattle.bus.specs.Bus.{bus_seconds, second_cycles, cycle_ticks, second_ticks, is_bus, tick_of, bus_time_of, tick_at, start_of, ahead_of, own_second, next_of}
 use Rattle.bus.specs.Demands.{OnBus, Next, NoneLeft}
 use Rattle.bus.specs.declared.BusTime.{BusTime}
 use Rattle.numbers.proofs.Branches.{if_when}
@@ -18,10 +18,10 @@ use Rattle.times.proofs.PartLaws.{part_reached, least_reached, least_part, part_
 
 -- ---- the tests of ranges
 
-pub grand_holds : (g : GrandTime) → InRange g → is_grand g ≡ true
+pub grand_holds : (g : GrandTime) → InRange g → is_in_range g ≡ true
 grand_holds g r = rw (lt-ltb g.0 second r.seconds, lt-ltb g.1 second r.fraction)
 
-pub holds_grand : (g : GrandTime) → is_grand g ≡ true → InRange g
+pub holds_grand : (g : GrandTime) → is_in_range g ≡ true → InRange g
 holds_grand g e =
     let k = both_hold (ltb g.0 second) (ltb g.1 second) e in
     record { seconds = ltb-true _ _ k.0; fraction = ltb-true _ _ k.1 }

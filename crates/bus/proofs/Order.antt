@@ -8,9 +8,9 @@ use Rattle.std.proofs.Common.{Ok, Err}
 use Rattle.refusals.specs.Answer.{answer_number}
 use Rattle.refusals.specs.declared.Refusal.TheVariants.{OutOfRange}
 use Rattle.refusals.specs.Order.{Lowest, nowhere}
-use Rattle.times.specs.Times.{second, InRange}
+use Rattle.times.specs.Times.{second, InRange, is_in_range}
 use Rattle.times.specs.declared.GrandTime.{GrandTime}
-use Rattle.bus.specs.Bus.{is_grand, is_bus, bus_time_of, outward_of, next_of, inward_of, cycle_time_of, register_of}
+use Rattle.bus.specs.Bus.{is_bus, bus_time_of, outward_of, next_of, inward_of, cycle_time_of, register_of}
 use Rattle.bus.specs.Demands.{OnBus, NoneLeft}
 use Rattle.bus.specs.Order.{grand_conditions, bus_conditions, inward_conditions}
 use Rattle.bus.specs.declared.BusTime.{BusTime}
@@ -19,7 +19,7 @@ use Rattle.times.proofs.TestLaws.{both_hold}
 use Rattle.refusals.proofs.Order.{first_lowest, less_fails, first_else, Fails, Checks, check, check_both, check_all, checked, checked_then}
 
 -- the tests of a grand time, and of a bus time
-grand_check : (g : GrandTime) → Checks 2 (is_grand g) (grand_conditions g)
+grand_check : (g : GrandTime) → Checks 2 (is_in_range g) (grand_conditions g)
 grand_check g = check_both (less_fails g.0 (2 ^ 40)) (check (less_fails g.1 (2 ^ 40)))
 
 bus_check : (t : BusTime) → Checks 2 (is_bus t) (bus_conditions t)
@@ -48,5 +48,5 @@ inward_lowest t hint =
     first_lowest 1 refl
     (checked_then answer_number (omega arith) refl refl (check_all (omega arith) refl (bus_check t) (grand_check hint))
     (λ e.
-    let (b, g) = both_hold (is_bus t) (is_grand hint) e in
+    let (b, g) = both_hold (is_bus t) (is_in_range hint) e in
     first_else answer_number (next_fails t hint (holds_bus t b) (holds_grand hint g)) (λ _. nowhere refl)))

@@ -8,10 +8,10 @@ use Rattle.std.proofs.Common.{Result, Ok, Err}
 use Rattle.refusals.specs.declared.Refusal.{Refusal}
 use Rattle.refusals.specs.declared.Refusal.TheVariants.{OutOfRange, BeyondRange}
 use Rattle.refusals.specs.Promises.{AnswerPromise}
-use Rattle.times.specs.Times.{second}
+use Rattle.times.specs.Times.{second, is_in_range}
 use Rattle.times.specs.Parts.{part_of, least_of}
 use Rattle.times.specs.declared.GrandTime.{GrandTime}
-use Rattle.bus.specs.Bus.{second_ticks, is_grand, is_bus, tick_of, bus_time_of, outward_of, outward_refusal, next_of, before_end, inward_of, inward_refusal, cycle_time_of, register_of, register_refusal}
+use Rattle.bus.specs.Bus.{second_ticks, is_bus, tick_of, bus_time_of, outward_of, outward_refusal, next_of, before_end, inward_of, inward_refusal, cycle_time_of, register_of, register_refusal}
 use Rattle.bus.specs.declared.BusTime.{BusTime}
 use Rattle.bus.specs.declared.CycleTime.{CycleTime}
 use Rattle.times.proofs.PartLaws.{part_common, least_common}
@@ -31,7 +31,7 @@ pub outward_out : (g : GrandTime) {r : Result BusTime Refusal} → r ≡ outward
 unfolding outward_of
 outward_out g =
     let t = bus_time_of g in
-    as_told t (test_told t (Ok t) (Err OutOfRange) (refl, refl) (refl, refl) (is_grand g))
+    as_told t (test_told t (Ok t) (Err OutOfRange) (refl, refl) (refl, refl) (is_in_range g))
 
 pub inward_out : (t : BusTime) (hint : GrandTime) {r : Result GrandTime Refusal} → r ≡ inward_of t hint
     → AnswerPromise (inward_of t hint) (inward_refusal t hint) (next_of t hint) r
@@ -39,7 +39,7 @@ unfolding inward_of
 inward_out t hint =
     let g = next_of t hint in
     as_told g
-    (test_told g (before_end g) (Err OutOfRange) (test_told g (Ok g) (Err BeyondRange) (refl, refl) (refl, refl) (ltb g.0 second)) (refl, refl) (is_bus t && is_grand hint))
+    (test_told g (before_end g) (Err OutOfRange) (test_told g (Ok g) (Err BeyondRange) (refl, refl) (refl, refl) (ltb g.0 second)) (refl, refl) (is_bus t && is_in_range hint))
 
 pub register_out : (t : BusTime) {r : Result CycleTime Refusal} → r ≡ register_of t
     → AnswerPromise (register_of t) (register_refusal t) (cycle_time_of t) r

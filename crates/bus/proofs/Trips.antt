@@ -12,10 +12,10 @@ use Rattle.std.proofs.Common.{Result, Ok, Err}
 use Rattle.refusals.specs.Answer.{answer_number}
 use Rattle.refusals.specs.declared.Refusal.{Refusal}
 use Rattle.refusals.specs.declared.Refusal.TheVariants.{OutOfRange}
-use Rattle.times.specs.Times.{second, units, InRange}
+use Rattle.times.specs.Times.{second, units, InRange, is_in_range}
 use Rattle.times.specs.Parts.{least_of}
 use Rattle.times.specs.declared.GrandTime.{GrandTime}
-use Rattle.bus.specs.Bus.{bus_seconds, cycle_ticks, second_ticks, is_grand, is_bus, tick_of, bus_time_of, outward_of, next_of, before_end, inward_of, cycle_time_of, register_of, fields_of}
+use Rattle.bus.specs.Bus.{bus_seconds, cycle_ticks, second_ticks, is_bus, tick_of, bus_time_of, outward_of, next_of, before_end, inward_of, cycle_time_of, register_of, fields_of}
 use Rattle.bus.specs.Demands.{OnBus, Next, NoneLeft, Taken, OutwardAnswers, InwardAnswers, RegisterAnswers, InReach, tick_units, JustBefore, ticks}
 use Rattle.bus.specs.declared.BusTime.{BusTime}
 use Rattle.bus.specs.declared.CycleTime.{CycleTime}
@@ -30,7 +30,7 @@ use Rattle.times.proofs.PartLaws.{part_near, part_whole}
 pub outward_answers : (g : GrandTime) → OutwardAnswers g (outward_of g)
 unfolding outward_of
 outward_answers g =
-    if_when (OutwardAnswers g) (is_grand g)
+    if_when (OutwardAnswers g) (is_in_range g)
     (λ e. inr (refl, refl, holds_grand g e))
     (λ e. inl (refl, refl, λ r. true≢false (sym (grand_holds g r) ∙ e)))
 
@@ -38,8 +38,8 @@ outward_answers g =
 pub inward_answers : (t : BusTime) (hint : GrandTime) → InwardAnswers t hint (inward_of t hint)
 unfolding inward_of
 inward_answers t hint =
-    if_when (InwardAnswers t hint) (is_bus t && is_grand hint)
-    (λ e. let (b, g) = both_hold (is_bus t) (is_grand hint) e in taken (holds_bus t b) (holds_grand hint g))
+    if_when (InwardAnswers t hint) (is_bus t && is_in_range hint)
+    (λ e. let (b, g) = both_hold (is_bus t) (is_in_range hint) e in taken (holds_bus t b) (holds_grand hint g))
     (λ e. inl (refl, refl, λ (on, range). true≢false (sym (rw (bus_holds t on, grand_holds hint range)) ∙ e)))
   where
     taken : OnBus t → InRange hint → InwardAnswers t hint (before_end (next_of t hint))
@@ -101,7 +101,7 @@ pub outward_inward : (t : BusTime) (hint g : GrandTime) → inward_of t hint ≡
 unfolding outward_of
 outward_inward t hint g e =
     let (r, n) = inward_next t hint g e in
-    sym (if_true (is_grand g) (Ok (bus_time_of g)) (Err OutOfRange) (grand_holds g r)) ∙ ap Ok n.fields
+    sym (if_true (is_in_range g) (Ok (bus_time_of g)) (Err OutOfRange) (grand_holds g r)) ∙ ap Ok n.fields
 
 -- Inward gives the least: it isn't below the hint, and no earlier grand time that isn't has those fields
 pub inward_least : (t : BusTime) (hint g : GrandTime) → inward_of t hint ≡ Ok g

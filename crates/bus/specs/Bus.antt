@@ -4,7 +4,7 @@ use Rattle.refusals.specs.Refusals.{done, out_of_range, beyond_range}
 use Rattle.refusals.specs.Chain.{unless}
 use Rattle.refusals.specs.declared.Refusal.{Refusal}
 use Rattle.refusals.specs.declared.Refusal.TheVariants.{OutOfRange, BeyondRange}
-use Rattle.times.specs.Times.{second, around_of}
+use Rattle.times.specs.Times.{second, around_of, is_in_range}
 use Rattle.times.specs.Parts.{part_of, least_of}
 use Rattle.times.specs.declared.GrandTime.{GrandTime}
 use Rattle.bus.specs.declared.BusTime.{BusTime}
@@ -23,10 +23,7 @@ cycle_ticks = 3072
 abbrev pub second_ticks : ℕ
 second_ticks = 24576000
 
--- seconds and fraction of a grand time, and the fields of a bus time, are below their ends
-abbrev pub is_grand : GrandTime → Bool
-is_grand g = ltb g.0 second && ltb g.1 second
-
+-- the fields of a bus time are below their ends
 abbrev pub is_bus : BusTime → Bool
 is_bus t = ltb t.seconds bus_seconds && (ltb t.cycle second_cycles && ltb t.offset cycle_ticks)
 
@@ -42,11 +39,11 @@ bus_time_of g = record { seconds = g.0 % bus_seconds; cycle = tick_of g.1 / cycl
 
 -- 2 for seconds or a fraction out of range
 unfoldable pub outward_of : GrandTime → Result BusTime Refusal
-outward_of g = cond (is_grand g) (Ok (bus_time_of g)) (Err OutOfRange)
+outward_of g = cond (is_in_range g) (Ok (bus_time_of g)) (Err OutOfRange)
 
 -- the number of the refusal, by the grand time
 abbrev pub outward_refusal : GrandTime → ℕ
-outward_refusal g = unless (is_grand g) out_of_range done
+outward_refusal g = unless (is_in_range g) out_of_range done
 
 -- ---- inward
 
@@ -78,11 +75,11 @@ before_end g = cond (ltb g.0 second) (Ok g) (Err BeyondRange)
 
 -- 2 for a field or a hint out of range first
 unfoldable pub inward_of : BusTime → GrandTime → Result GrandTime Refusal
-inward_of t hint = cond (is_bus t && is_grand hint) (before_end (next_of t hint)) (Err OutOfRange)
+inward_of t hint = cond (is_bus t && is_in_range hint) (before_end (next_of t hint)) (Err OutOfRange)
 
 -- the number of the refusal, by the bus time and the hint
 abbrev pub inward_refusal : BusTime → GrandTime → ℕ
-inward_refusal t hint = unless (is_bus t && is_grand hint) out_of_range (unless (ltb (next_of t hint).0 second) beyond_range done)
+inward_refusal t hint = unless (is_bus t && is_in_range hint) out_of_range (unless (ltb (next_of t hint).0 second) beyond_range done)
 
 -- ---- the register: seconds in its upper 7 bits, cycle in the next 13, offset in the lower 12
 

@@ -1,2 +1,2 @@
-// Whole numbers that the language lacks: signed arithmetic that is exact, and numbers in bytes.
+// Definitions of whole numbers, and lemmas on them: division rounded down and to the nearest, and numbers in bytes and in a table's columns.
 #![tactic(auto)]

@@ -38,6 +38,7 @@ pub enum Refusal {
     BadLine = 14,
 }
 
+// The number that document 01 gives a refusal.
 impl From<Refusal> for u8 {
     ghost from_gives = { λ refusal n. n ≡ number_of refusal };
 

@@ -12,6 +12,7 @@ pub mod parts;
 pub struct LocalTime(pub u64);
 
 // A grand time: whole seconds and a fraction in U, each below 2^40.
+// That it is in range is a clause of its users and no invariant of the type: Export, Inward, Write and Own clock are given times out of range, and refuse them.
 #[derive(Clone, Copy)]
 pub struct GrandTime(pub u64, pub u64);
 

@@ -42,6 +42,7 @@ pub fn earlier_by(t: LocalTime, n: u64) -> LocalTime
 }
 
 // The frameCount that follows.
+// No `wrapping_add`: document 01 names helpers over a wrapping subtract for all that goes round. `as` takes off no bit, since `around` is below 256.
 pub fn next_count(count: u8) -> u8
     ensures { result ≡ next_count count }
 {

@@ -2,6 +2,8 @@
 ghost use Rattle.std.specs.Prelude.{◌≡◌, ◌+◌, ◌*◌, ◌^◌, ◌<◌, ◌≤◌};
 ghost use Rattle.times.specs.Parts.{part_of, least_of};
 
+// `parts` and `units` are two numbers and no record, as in `part_of` and `least_of`, and these two functions alone have them.
+
 // The part that a fraction lies in.
 pub fn part(fraction: u64, parts: u64, units: u64) -> u64
     requires units_nonzero { 0 < units }
@@ -17,5 +19,5 @@ pub fn least(part: u64, parts: u64, units: u64) -> u64
     requires parts_bound { part * units + parts ≤ 2 ^ 64 }
     ensures { result ≡ least_of parts units part }
 {
-    (part * units + (parts - 1)) / parts
+    (part * units).div_ceil(parts)
 }
