@@ -3,11 +3,13 @@ use mathlib.Core.Path.{◌≡◌, refl}
 use mathlib.Core.Bool.{Bool, true, false, cond, ◌&&◌}
 use Prim.Native.Nat.{ℕ, ◌≤◌}
 use native.Mathlib.Omega.{arith}
-use Rattle.std.proofs.Common.{Ok, Err}
+use mathlib.Core.Logic.{◌⊎◌, inl, inr}
+use Rattle.std.proofs.Common.{Result, Ok, Err}
 use borrow.Author.Tests.{le-leb, leb-true, eq-eqb, eqb-true}
 use lib.Dec.{leb, eqb}
 use lib.IntN.{ℤ}
 use Rattle.refusals.specs.Answer.{answer_number}
+use Rattle.refusals.specs.declared.Refusal.{Refusal}
 use Rattle.refusals.specs.declared.Refusal.TheVariants.{DelayTooLong}
 use Rattle.times.specs.Times.{since_of}
 use Rattle.times.specs.declared.LocalTime.{LocalTime}
@@ -75,3 +77,14 @@ delay_small rate local p tx rx n e = go (eqb tx.0 0 && eqb rx.0 0) e
 -- the numbers of the answers
 pub delay_numbers : (n : ℕ) → (answer_number {A = ℕ} (Ok n) ≡ 0) × (answer_number {A = ℕ} (Err DelayTooLong) ≡ 9)
 delay_numbers n = (refl, refl)
+
+-- and a measured delay is answered with no other
+pub measured_numbers : (rate : ℤ) (trip turn : ℕ) → (answer_number (measured_of rate trip turn) ≡ 0) ⊎ (answer_number (measured_of rate trip turn) ≡ 9)
+unfolding measured_of
+measured_numbers rate trip turn = by (leb trip longest_trip && leb turn longest_trip && leb (delay_of rate trip turn) longest_delay)
+  where
+    by : (short : Bool) →
+        let r : Result ℕ Refusal = cond short (Ok (delay_of rate trip turn)) (Err DelayTooLong) in
+        (answer_number r ≡ 0) ⊎ (answer_number r ≡ 9)
+    by true = inl refl
+    by false = inr refl

@@ -1,3 +1,4 @@
+pub mod AnswerLaws
 pub mod Order
 pub mod Literals
 pub mod PromiseLaws

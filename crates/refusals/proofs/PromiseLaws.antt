@@ -1,5 +1,5 @@
 -- Laws of an answer that is a value or a refusal: what a definition's answer tells, test by test, is promised of what is equal to it; and two outcomes are equal.
-use Rattle.std.proofs.Common.{◌≡◌, refl, sym, ap, ◌∙◌, Bool, true, false, cond, ℕ, Result, Ok, Err}
+use Rattle.std.proofs.Common.{◌≡◌, refl, sym, ap, ◌∙◌, Bool, true, false, cond, ℕ, Result}
 use Rattle.refusals.specs.Chain.{unless, carried}
 use Rattle.refusals.specs.Refusals.{number_of}
 use Rattle.refusals.specs.Answer.{answer_number, answer_value, require}
