@@ -21,6 +21,8 @@ const FIFTEEN_MILLISECONDS: u64 = 16_492_674_417;
 
 // What Setup is given: what the station puts into its frames, its own precedence and whether it is capable, how many ports it has, the version of the
 // frames that each of them sends, a timeout, and each port's part.
+// `own` stands beside `capable`, and is no Option: the state keeps what Setup was given (`fresh_of`, `TypedSetup`), also of a station that is not capable.
+// `n` stands beside two lists of eight: there is no heap, and `versions_fit_of` and `delays_fit_of` read a list each. A version in its port's Setting was tried: it proved, and a state took 64 bytes more.
 #[derive(Clone, Copy)]
 pub struct Setup {
     pub sender: Sender,
@@ -33,6 +35,7 @@ pub struct Setup {
 }
 
 // The whole state: what Setup was given, the links, the ranking of all candidates, the own clock's record and the ports' records.
+// `Lawful` stands at each call, and is no invariant of the type: the definitions make states as plain records (`state_of`, `no_bridge`), and that they are lawful is what theorems prove of them (`run_lawful`).
 #[derive(Clone, Copy)]
 pub struct Bridge {
     pub setup: Setup,

@@ -12,6 +12,8 @@ use refusals::Refusal;
 use times::LocalTime;
 
 // Age in a state that it is lent: where no announcement is too old, no record is stored.
+// The loop goes by the index, tried: over `iter_mut` the records are lent out of the state, and its invariant, `Stored`, speaks of the whole state.
+// The cast is of at most 8, for which `try_from` with its error is no plainer.
 fn aged(b: &mut Bridge, at: u64) -> Result<(), Refusal>
     requires { Lawful b.old }
     ensures { record { next = b.new; answer = result } ≡ age_of b.old at }

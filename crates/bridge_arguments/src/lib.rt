@@ -12,7 +12,7 @@ use delay::DelaySetting;
 use frame::{layout, version};
 use port::{Profile, Setting};
 use refusals::Refusal;
-use times::{grand, local};
+use times::{GrandTime, LocalTime, grand, local};
 
 // What Setup takes: from the fewest ports to the most, a timeout from the least to the greatest, a backTime below the end.
 const FEWEST_PORTS: u8 = 1;
@@ -30,11 +30,11 @@ const LISTENER_PORTS: u8 = 1;
 
 const LISTENER_BACK: u64 = 0;
 
-// Whether a local time is out of its range.
+// Whether a local time is out of its range. The laws of Age and Stamp ask it so, and not whether it is on its circle (`age_refused`).
 pub fn off_circle(at: u64) -> bool
     ensures { result ≡ leb circle at }
 {
-    local::CIRCLE <= at
+    !local::is_on_circle(LocalTime(at))
 }
 
 // Whether a port has a link.
@@ -45,7 +45,7 @@ fn has_link(links: u8, port: u8) -> bool
     (links >> (port - 1)) % 2 == 1
 }
 
-// Refuses a call on a port that there is not or that has no link, or at a local time out of range.
+// Refuses a call on a port that there is not or that has no link, or at a local time out of range. It is given n and the links, and no state, as `port_refusal` is.
 #[tactic(auto, unfolding(bridge::specs::Arguments::port_refusal))]
 pub fn port_refusal(n: u8, links: u8, port: u8, at: u64) -> Result<(), Refusal>
     requires { n ≤ 8 }
@@ -73,12 +73,12 @@ pub fn send_refusal(n: u8, links: u8, port: u8, t: u64, room: usize) -> Result<(
     Ok(())
 }
 
-// Refuses a reading of the own clock with a time out of range, or on a station that is not capable.
+// Refuses a reading of the own clock with a time out of range, or on a station that is not capable. Seconds and fraction are two numbers, as Own clock is given them (`own_clock_of`).
 #[tactic(auto, unfolding(bridge::specs::Arguments::own_clock_refusal))]
 pub fn own_clock_refusal(capable: bool, seconds: u64, fraction: u64, at: u64) -> Result<(), Refusal>
     ensures { result ≡ own_clock_refusal capable seconds fraction at }
 {
-    if grand::SECOND <= seconds || grand::SECOND <= fraction || off_circle(at) {
+    if !grand::is_in_range(GrandTime(seconds, fraction)) || off_circle(at) {
         return Err(Refusal::OutOfRange);
     }
     if !capable {

@@ -20,6 +20,8 @@ fn loses_link(links: u8, mask: u8, i: usize) -> bool
 }
 
 // Links in a state that it is lent: a port that loses its link loses its record and its place in the ranking, and no other record is stored.
+// The loop goes by the index: over `iter_mut` the records are lent out of the state, and its invariant, `Stored`, speaks of the whole state (tried in Age).
+// The casts are of at most 8, for which `try_from` with its error is no plainer.
 fn relink(b: &mut Bridge, mask: u8) -> Result<u8, Refusal>
     requires { Lawful b.old }
     ensures { record { next = b.new; answer = result } ≡ links_of b.old mask }

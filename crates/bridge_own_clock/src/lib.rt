@@ -27,7 +27,7 @@ fn read(b: &mut Bridge, count: u8, seconds: u64, fraction: u64, at: u64) -> Resu
     reading.answer
 }
 
-// Own clock: a reading of it, whose grand time belongs to the local time of the preceding one.
+// Own clock: a reading of it, whose grand time belongs to the local time of the preceding one. Its arguments are numbers, in range or not (`own_clock_of`).
 pub fn own_clock(b: Bridge, count: u8, seconds: u64, fraction: u64, at: u64) -> Done<()>
     requires { Lawful b }
     ensures { DonePromise (own_clock_of b count seconds fraction at) result }

@@ -8,7 +8,8 @@ use bridge::PORTS;
 use port::{OwnClock, Port};
 use samples::Samples;
 
-// The samples of the clock with this number, and none where there is no such clock. The loop ends early nowhere, and no record is read at an index: so the compiler copies none.
+// The samples of the clock with this number, and none where there is no such clock.
+// The loop ends early nowhere, and no record is read at an index. Measured in a trial of the same form: with either of the two Drift copies the whole state, some 2,200 bytes of stack for 8.
 pub fn samples(clock: &OwnClock, ports: &[Port; PORTS], number: u8) -> Samples
     ensures { result ≡ samples_at number clock.now ports.now }
 {
