@@ -12,5 +12,7 @@ pub fn ranked(b: Bridge, place: u8) -> Option<Candidate>
     requires { Lawful b }
     ensures { RankedPromise b place result }
 {
-    choice_ranking::candidate_at(&b.ranking, usize::from(place))
+    // The ranking alone, since what is read at a place is copied whole.
+    let ranking = b.ranking;
+    choice_ranking::candidate_at(&ranking, usize::from(place))
 }

@@ -62,14 +62,14 @@ pub fn setup(given: Setup) -> Done<()>
     if bridge_arguments::profile_fits(sender.profile, given.n, given.capable, sender.back)
         && bridge_arguments::ranges_fit(given)
     {
-        Done {
+        // Returned here, since a state that two branches give is copied once more.
+        return Done {
             next: fresh(given),
             answer: Ok(()),
-        }
-    } else {
-        Done {
-            next: fresh(plain_setup(0, 0, 0)),
-            answer: Err(Refusal::BadSetup),
-        }
+        };
+    }
+    Done {
+        next: fresh(plain_setup(0, 0, 0)),
+        answer: Err(Refusal::BadSetup),
     }
 }

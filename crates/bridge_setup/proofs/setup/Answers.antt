@@ -27,8 +27,8 @@ returns-then-ranges_fit c =
     (ap (answers granted) c.fresh.ensures ∙ setup_done _ (sym c.profile_fits.ensures ∙ c.if-profile_fits.true) (sym c.ranges_fit.ensures ∙ c.if-ranges_fit.true))
     (setup_lawful _ (typed (goal.at.returns-then-ranges_fit c).Start))
 
-pub returns-else-profile_fits : goal.returns-else-profile_fits
-returns-else-profile_fits c =
+pub returns : goal.returns
+returns c =
     let profile = c.profile_fits.ensures in
     -- one of the two tests does not hold
     let refused : answers (Err BadSetup) no_bridge ≡ setup_of c.args.given =
@@ -37,5 +37,5 @@ returns-else-profile_fits c =
       | else-profile_fits-via-else-profile_fits w ↦ profile_refused _ (sym profile ∙ w.if-profile_fits.false)
     ] in
     out _ _
-    (ap (answers (Err BadSetup)) (c.fresh-else-profile_fits.ensures ∙ ap fresh_of c.plain_setup.ensures) ∙ refused)
-    (setup_lawful _ (typed (goal.at.returns-else-profile_fits c).Start))
+    (ap (answers (Err BadSetup)) (c.fresh-2.ensures ∙ ap fresh_of c.plain_setup.ensures) ∙ refused)
+    (setup_lawful _ (typed (goal.at.returns c).Start))
