@@ -9,7 +9,7 @@ ghost use Rattle.answer.specs.Answer.{refused_line, done_says, Says};
 use bridge::{Bridge, Done};
 use refusals::Refusal;
 
-// The state after a line, and the length of what is printed for it.
+// The state after a line, and the length of what is printed for it: there is no heap, so the text stands in the lent output.
 #[derive(Clone, Copy)]
 pub struct Answered {
     pub next: Bridge,

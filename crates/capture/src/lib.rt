@@ -24,6 +24,9 @@ const BACK: u64 = 10_995_116_278;
 // The digits of a line.
 const LINE_DIGITS: usize = 142;
 
+// The bytes that they make.
+const LINE_BYTES: usize = 71;
+
 // Where the parts of a line's bytes start, and how many the arrival has.
 const PORT_PLACE: usize = 0;
 
@@ -65,7 +68,7 @@ pub fn answer_line(b: Bridge, text: &[u8], out: &mut [u8]) -> Answered
             len: listed(bridge_chosen::chosen(b), Err(Refusal::BadLine), out),
         };
     }
-    let mut line = [0u8; 71];
+    let mut line = [0u8; LINE_BYTES];
     digits::bytes(text, &mut line);
     let arrival = numbers_bytes::number_at(&line, ARRIVAL_PLACE, ARRIVAL_BYTES);
     let done = bridge_receive::receive(b, line[PORT_PLACE], &line[FRAME_PLACE..], arrival);

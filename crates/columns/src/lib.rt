@@ -22,6 +22,7 @@ pub const SPACE: u64 = b' ' as u64;
 pub const NEWLINE: u64 = b'\n' as u64;
 
 // The longest line that is printed: an answer, a space, 128 bytes as digits, a newline.
+// There is no heap, so each function prints into a lent output, of any length from this on, and answers where the text ends: callers cut the output there, and an output of fixed length would ask more of them.
 pub const LONGEST_ANSWER: usize = 260;
 
 // The mark of no bytes.
@@ -31,6 +32,7 @@ const NO_BYTES: u64 = b'-' as u64;
 const BYTE_VALUES: u64 = 256;
 
 // Stores the digits of the `width` low bytes of a number from `at` on, the last first.
+// By places and not by `chunks_exact_mut(DIGITS).rev()`: as in `hexadecimal::text::put`, inside such a loop what is filled so far has no name, and the proof speaks of it. The cast loses nothing after `%`.
 fn put_number(out: &mut [u8], at: usize, width: usize, value: u64)
     requires { at + width * 2 ≤ length out.old }
     ensures { out.new ≡ take at out.old ++ (text_of (number_bytes width value) ++ drop (at + width * 2) out.old) }
@@ -43,6 +45,7 @@ fn put_number(out: &mut [u8], at: usize, width: usize, value: u64)
 }
 
 // Prints one column from `at` on, and answers where it ends.
+// The width 0 says that the column is a character, as `column_text` says it; so widths are numbers of one list, which `room` sums.
 fn put_column(out: &mut [u8], at: usize, width: usize, value: u64) -> usize
     requires { at + column_room width ≤ length out.old }
     ensures value { result ≡ at + length (column_text width value) }
@@ -105,6 +108,7 @@ pub fn line(out: &mut [u8], widths: &[usize], values: &[u64]) -> usize
 }
 
 // Prints one byte.
+// `one`, `two` and `three` are no one function of N bytes: its 2N columns are a computed length of an array, and clauses name `line1`, `line2` and `line3`.
 pub fn one(out: &mut [u8], a: u8) -> usize
     requires { longest_answer ≤ length out.old }
     ensures { Prints (line1 a) result out.old out.new }
@@ -153,7 +157,7 @@ pub fn with_bytes(out: &mut [u8], a: u8, bytes: &[u8]) -> usize
     put_bytes(out, at, bytes)
 }
 
-// Prints one byte and then a grand time, its seconds and its fraction.
+// Prints one byte and then a grand time, its seconds and its fraction: two numbers, since no crate of times stands below this one.
 pub fn with_time(out: &mut [u8], a: u8, seconds: u64, fraction: u64) -> usize
     requires { longest_answer ≤ length out.old }
     ensures { Prints (line_time a seconds fraction) result out.old out.new }

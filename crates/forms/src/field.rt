@@ -21,7 +21,7 @@ const MOST_FLAG: u64 = 1;
 
 const MOST_LENGTH: u64 = 128;
 
-const MOST_NUMBER: u64 = 18446744073709551615;
+const MOST_NUMBER: u64 = u64::MAX;
 
 // The marks.
 const DEFAULT: u8 = b'D';
@@ -47,7 +47,7 @@ pub struct Rule {
 }
 
 // What a field of its kind says: whether it is the mark, its number, how many bytes and how many characters it has.
-// The mark stands beside the number, since `Form` has both of each field in arrays of their own.
+// The mark stands beside the number and is no case without one, since `Form` has both of each field in arrays of their own (see there).
 #[derive(Clone, Copy)]
 pub struct Field {
     pub marked: bool,
@@ -105,10 +105,7 @@ fn rule_of(kind: Kind) -> Rule
 fn is_mark(text: &[u8], mark: Option<u8>) -> bool
     ensures { result ≡ is_mark text.now mark }
 {
-    match mark {
-        Some(mark) => text.len() == 1 && text[0] == mark,
-        None => false,
-    }
+    mark.is_some_and(|mark| text.len() == 1 && text[0] == mark)
 }
 
 // Whether a field is digits, from the fewest to the most.

@@ -1,4 +1,5 @@
 // What a field says, as an argument of a call. Field i is counted from 0.
+// The casts in this file lose nothing: what is cast is below 256. An index is a number with a clause: a type of indexes has no plainer form.
 ghost use Rattle.std.specs.Prelude.{◌≡◌, ◌<◌};
 ghost use Rattle.forms.specs.Form.{most_fields};
 ghost use Rattle.forms.specs.Value.{byte_in, size_in, number_or};
@@ -24,11 +25,7 @@ pub fn size(form: Form, i: usize) -> usize
     requires { i < most_fields }
     ensures { result ≡ size_in form i }
 {
-    let n = form.numbers[i];
-    if n < MOST_LENGTH {
-        return n as usize;
-    }
-    MOST_LENGTH as usize
+    form.numbers[i].min(MOST_LENGTH) as usize
 }
 
 // Field i as a number, or the default.

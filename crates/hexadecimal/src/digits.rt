@@ -8,7 +8,8 @@ pub const BASE: u8 = 16;
 
 const TEN: u8 = 10;
 
-const WIDE_BASE: u64 = 16;
+// By a cast, since `From` isn't const.
+const WIDE_BASE: u64 = BASE as u64;
 
 // How many digits are letters.
 const LETTERS: u8 = 6;
@@ -16,7 +17,7 @@ const LETTERS: u8 = 6;
 // How many digits a byte has.
 pub const DIGITS: usize = 2;
 
-// What stands for the value of a character that is no digit.
+// What stands for the value of a character that is no digit: a number above every digit's and no None, since `value_of` says 16 and `all` takes the greatest of all values.
 pub const NO_DIGIT: u8 = 16;
 
 // The value of a digit of either case, or NO_DIGIT.
@@ -48,6 +49,7 @@ pub fn capital(n: u8) -> u8
 }
 
 // Whether every character is a digit: whether the greatest value is one's.
+// No `iter().all(..)`, which branches at each character: the greatest is taken without a branch.
 pub fn all(text: &[u8]) -> bool
     ensures { result ≡ all_digits text.now }
 {
@@ -85,6 +87,7 @@ pub fn byte(a: u8, b: u8) -> u8
 }
 
 // Fills out with a byte for each two digits.
+// tried: by a zip with `chunks_exact(DIGITS)`; the proof didn't close, since inside that loop what is filled so far has no name.
 pub fn bytes(text: &[u8], out: &mut [u8])
     requires { length text.now ≡ length out.old * 2 }
     ensures { out.new ≡ pairs text.now }

@@ -14,6 +14,7 @@ pub fn put_byte(out: &mut [u8], at: usize, b: u8)
 }
 
 // Fills out with the digits of the bytes.
+// tried: by a zip with `chunks_exact_mut(DIGITS)`; the proof didn't close, since inside that loop what is filled so far has no name.
 pub fn put(bytes: &[u8], out: &mut [u8])
     requires { length out.old ≡ length bytes.now * 2 }
     ensures { out.new ≡ text_of bytes.now }

@@ -20,7 +20,7 @@ const SECONDS_BYTES: usize = 5;
 
 const FRACTION_BYTES: usize = 5;
 
-// Prints a stamp, or the refusal.
+// Prints a stamp, or the refusal, by a definition of its own (`latch_text`: no answer stands before the time).
 fn stamped(stamp: Result<GrandTime, Refusal>, out: &mut [u8]) -> usize
     requires { longest_answer ≤ length out.old }
     ensures { Prints (latch_text stamp) result out.old out.new }

@@ -1,4 +1,5 @@
 // The lines of replay over the cycle time of a bus. Above each stands the line; its fields are counted from 0, the first after the letter. No bridge is known here.
+// No line of replay comes here yet: `replay_grammar` has no rows for Y and Z, which come with C-23.
 #![tactic(auto)]
 
 ghost use Rattle.std.specs.Prelude.{◌≡◌, ◌≤◌, length};
@@ -26,6 +27,7 @@ const DIGIT_VALUES: u64 = 16;
 fn first_digit(offset: u64) -> u8
     ensures { result ≡ first_digit offset }
 {
+    // The cast loses nothing: a digit is below 16.
     digits::capital((offset / BYTE_VALUES % DIGIT_VALUES) as u8)
 }
 
@@ -54,6 +56,7 @@ fn fields(time: BusTime, out: &mut [u8]) -> usize
 }
 
 // `Y sec frac`.
+// A refusal is printed in each function here: each promises a text by a definition of its own (`outward_text`, `inward_text`).
 fn outward(form: &Form, out: &mut [u8]) -> usize
     requires { longest_answer ≤ length out.old }
     ensures { Prints (outward_text (outward_of (record { 0 = number_in form.now 0; 1 = number_in form.now 1 }))) result out.old out.new }
@@ -81,6 +84,7 @@ fn inward(form: &Form, out: &mut [u8]) -> usize
 }
 
 // What is printed for a letter, with what its fields say; that the line is bad where no call has the letter.
+// A letter is the line's own byte, and a table of closures is no plainer than this match.
 #[tactic(auto, unfolding(crate::specs::Bus::bus_text))]
 pub fn asked(letter: u8, form: Form, out: &mut [u8]) -> usize
     requires { longest_answer ≤ length out.old }

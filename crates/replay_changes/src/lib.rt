@@ -30,7 +30,7 @@ pub fn setup(letter: u8, form: Form, out: &mut [u8]) -> Answered
     answer::done(bridge_setup::setup(replay_setup::given(letter, form)), out)
 }
 
-// Prints what Links answers.
+// Prints what Links answers, a refusal also, by a definition of its own (`link_text`).
 fn link_count(answer: Result<u8, Refusal>, out: &mut [u8]) -> usize
     requires { longest_answer ≤ length out.old }
     ensures { Prints (link_text answer) result out.old out.new }
@@ -68,6 +68,7 @@ pub fn own_clock(b: Bridge, form: Form, out: &mut [u8]) -> Answered
 }
 
 // `R port arrival frame`.
+// `bytes_len` says what the type says too; it stands, since a public contract keeps its words.
 pub fn receive(b: Bridge, form: Form, out: &mut [u8]) -> Answered
     requires lawful { Lawful b }
     requires bytes_len { length form.bytes ≡ buffer_bytes }
@@ -114,6 +115,6 @@ pub fn send(b: Bridge, form: Form, out: &mut [u8]) -> Answered
 {
     let port = value::byte(form, 0);
     let n = value::size(form, 2);
-    let mut frame = [replay_frames::UNTOUCHED; 128];
+    let mut frame = [replay_frames::UNTOUCHED; replay_frames::MOST_LENGTH];
     sent(b, port, form.numbers[1], &mut frame[..n], out)
 }

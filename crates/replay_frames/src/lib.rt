@@ -66,7 +66,7 @@ pub fn mac(b: &[u8; 256]) -> Mac
     Mac(b[0], b[1], b[2], b[3], b[4], b[5])
 }
 
-// The precedence after it.
+// The precedence after it. The casts in this file lose nothing: as many bytes make the number as the type has.
 pub fn precedence(b: &[u8; 256]) -> Precedence
     ensures { result ≡ precedence_from b.now }
 {
@@ -154,7 +154,7 @@ fn values(f: &Fields) -> [u64; COLUMNS]
     ]
 }
 
-// Prints what a frame says, or why it can't be read.
+// Prints what a frame says, or why it can't be read. The refusal is printed here, since the text is promised by a definition of its own, `read_text`.
 fn reading(said: Result<Fields, Refusal>, out: &mut [u8]) -> usize
     requires { longest_answer ≤ length out.old }
     ensures { Prints (read_text said) result out.old out.new }
@@ -167,8 +167,7 @@ fn reading(said: Result<Fields, Refusal>, out: &mut [u8]) -> usize
 
 // `F frame`.
 fn read(form: Form, out: &mut [u8]) -> usize
-    requires bytes_len { length form.bytes ≡ buffer_bytes }
-    requires longest_answer_in_bounds { longest_answer ≤ length out.old }
+    requires { longest_answer ≤ length out.old }
     ensures { Prints (read_text (read_of (take (size_in form 0) form.bytes))) result out.old out.new }
 {
     let n = value::size(form, 0);
@@ -197,8 +196,7 @@ fn write(form: Form, out: &mut [u8]) -> usize
 
 // `B a b`.
 fn better(form: Form, out: &mut [u8]) -> usize
-    requires bytes_len { length form.bytes ≡ buffer_bytes }
-    requires longest_answer_in_bounds { longest_answer ≤ length out.old }
+    requires { longest_answer ≤ length out.old }
     ensures { Prints (better_text_of (take (size_in form 0) form.bytes) (take (size_in form 1) (drop (size_in form 0) form.bytes))) result out.old out.new }
 {
     let n = value::size(form, 0);
@@ -218,6 +216,8 @@ fn passes(form: Form, out: &mut [u8]) -> usize
 }
 
 // What is printed for the letter of a plain line, with what its fields say: of a frame's or a hop's, or else of the lines of times.
+// A letter is the line's own byte, and a table of closures is no plainer than this match.
+// `bytes_len` says what the type says too; it stands, since a public contract keeps its words.
 #[tactic(auto, unfolding(crate::specs::Frames::plain_text))]
 pub fn asked(letter: u8, form: Form, out: &mut [u8]) -> usize
     requires bytes_len { length form.bytes ≡ buffer_bytes }

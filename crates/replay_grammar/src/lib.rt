@@ -16,7 +16,7 @@ pub const LONGEST_LINE: usize = 515;
 fn may_be_line(text: &[u8]) -> bool
     ensures { result ≡ may_be_line text.now }
 {
-    text.len() != 0 && text.len() <= LONGEST_LINE
+    !text.is_empty() && text.len() <= LONGEST_LINE
 }
 
 // What the fields of a text say, which are read here for both kinds of a line; nothing where it is no line.
@@ -35,11 +35,8 @@ pub fn form(text: &[u8]) -> Option<Form>
 pub fn asks(text: &[u8]) -> bool
     ensures { result ≡ asks text.now }
 {
-    if text.len() == 0 {
-        return true;
-    }
-    match text[0] {
-        b'S' | b'P' | b'V' | b'L' | b'O' | b'R' | b'A' | b'T' => false,
-        _ => true,
-    }
+    !matches!(
+        text.first(),
+        Some(b'S' | b'P' | b'V' | b'L' | b'O' | b'R' | b'A' | b'T')
+    )
 }

@@ -1,4 +1,4 @@
-// The kinds of the fields that follow each letter.
+// The kinds of the fields that follow each letter. A letter is the line's own byte: a type of letters would be a second list of them, with a bad one in it.
 ghost use Rattle.std.specs.Prelude.{◌≡◌};
 ghost use Rattle.replay_grammar.specs.Row.{plain_row, row_of};
 

@@ -1,10 +1,10 @@
 // One line of replay to one call, and its answer to one line of text.
+// A letter is the line's own byte, and a table of closures is no plainer than the matches here.
 #![tactic(auto)]
 
 ghost use Rattle.std.specs.Prelude.{◌≡◌, true, false, ◌≤◌, length};
 ghost use Rattle.bridge.specs.State.{Lawful};
 ghost use Rattle.bridge.specs.Setup.{no_bridge};
-ghost use Rattle.forms.specs.Form.{buffer_bytes};
 ghost use Rattle.columns.specs.Columns.{longest_answer, Prints};
 ghost use Rattle.answer.specs.Answer.{Says};
 ghost use Rattle.replay_grammar.specs.Line.{asks_by, asks};
@@ -28,7 +28,6 @@ pub fn start() -> Bridge
 #[tactic(auto, unfolding(replay_calls::specs::Answer::asked_text))]
 fn asked(b: Bridge, letter: u8, form: Form, out: &mut [u8]) -> usize
     requires lawful { Lawful b }
-    requires bytes_len { length form.bytes ≡ buffer_bytes }
     requires longest_answer_in_bounds { longest_answer ≤ length out.old }
     ensures { Prints (asked_text letter b form) result out.old out.new }
 {
@@ -60,7 +59,6 @@ pub fn asked_line(b: Bridge, text: &[u8], out: &mut [u8]) -> usize
 fn call(b: Bridge, letter: u8, form: Form, out: &mut [u8]) -> Answered
     requires lawful { Lawful b }
     requires letter_value { asks_by letter ≡ false }
-    requires bytes_len { length form.bytes ≡ buffer_bytes }
     requires longest_answer_in_bounds { longest_answer ≤ length out.old }
     ensures { Says (call_of letter b form) result out.old out.new }
 {

@@ -57,7 +57,7 @@ fn bits(x: f64, out: &mut [u8]) -> usize
     ensures { Prints (line_with 0 (number_bytes 8 (to_bits binary64 x))) result out.old out.new }
 {
     let mut b = [0u8; 8];
-    numbers_bytes::put(&mut b, f64::to_bits(x));
+    numbers_bytes::put(&mut b, x.to_bits());
     columns::with_bytes(out, refusals::DONE, &b)
 }
 
@@ -84,7 +84,7 @@ pub fn drift(b: Bridge, form: Form, out: &mut [u8]) -> usize
     rate(bridge_drift::drift(b, value::byte(form, 0)), out)
 }
 
-// Prints a stamp after the answer 0, or the refusal.
+// Prints a stamp after the answer 0, or the refusal, by a definition of its own (`stamp_text`).
 fn stamped(stamp: Result<GrandTime, Refusal>, out: &mut [u8]) -> usize
     requires { longest_answer ≤ length out.old }
     ensures { Prints (stamp_text stamp) result out.old out.new }

@@ -44,7 +44,7 @@ fn flag(form: Form, i: usize) -> bool
     form.numbers[i] == SET
 }
 
-// A listener's profile, or a full bridge's.
+// A listener's profile, or a full bridge's. A `From<bool>` is no plainer: it would not say which of the two the flag means.
 fn profile(listener: bool) -> Profile
     ensures { result ≡ profile_by listener }
 {

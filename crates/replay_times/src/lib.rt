@@ -28,6 +28,7 @@ const NANOSECOND: usize = 4;
 fn leap(form: &Form) -> i16
     ensures { result ≡ leap_in form.now.bytes }
 {
+    // The cast loses nothing: two bytes make the number.
     (numbers_bytes::number_at(&form.bytes, LEAP_AT, LEAP_BYTES) as u16).cast_signed()
 }
 
@@ -52,6 +53,7 @@ fn timestamp(time: PtpTime, out: &mut [u8]) -> usize
 }
 
 // `X sec frac`.
+// A refusal is printed in each function here: each promises a text by a definition of its own (`export_text`, `import_text`, `scale_text`).
 fn export(form: &Form, out: &mut [u8]) -> usize
     requires { longest_answer ≤ length out.old }
     ensures { Prints (export_text (export_of (record { 0 = number_in form.now 0; 1 = number_in form.now 1 }))) result out.old out.new }
@@ -116,6 +118,7 @@ fn ntp(form: &Form, out: &mut [u8]) -> usize
 }
 
 // What is printed for a letter, with what its fields say; that the line is bad where no call has the letter.
+// A letter is the line's own byte, and a table of closures is no plainer than this match.
 #[tactic(auto, unfolding(crate::specs::Times::times_text))]
 pub fn asked(letter: u8, form: Form, out: &mut [u8]) -> usize
     requires { longest_answer ≤ length out.old }

@@ -40,8 +40,8 @@ returns-in_err-next c =
     ∙ walk_bad kinds c.args.rest.now l.i l.at (held l.numbers l.marked l.bytes l.used) _ (drop_more kinds l.i Byte c.loop-i-test.true) c.in_err-next.ensures
     ∙ l.invariant.walked
 
-pub overflow_mul-size : goal.overflow_mul-size
-overflow_mul-size c = let k = known (goal.at.overflow_mul-size c).In_ok-next in omega arith
+pub overflow_mul-next : goal.overflow_mul-next
+overflow_mul-next c = let k = known (goal.at.overflow_mul-next c).In_ok-next in omega arith
 
 pub overflow_add-start-in-loop-i : goal.overflow_add-start-in-loop-i
 overflow_add-start-in-loop-i c = let k = known (goal.at.overflow_add-start-in-loop-i c).In_ok-next in omega arith
