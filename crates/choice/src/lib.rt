@@ -22,6 +22,7 @@ pub struct Announcement {
 }
 
 // A clock to be chosen: its precedence, the held hop, and its number, that of its port or 0 for the own clock.
+// A number and no enum: document 01 gives the own clock port 0, which the definitions (`number_of`) order and answer as a number, and which Drift takes too.
 #[derive(Clone, Copy)]
 pub struct Candidate {
     pub precedence: Precedence,
@@ -30,5 +31,6 @@ pub struct Candidate {
 }
 
 // A candidate's rank as two numbers, of which the first weighs more; both are the last there is where there is no candidate.
+// No Option: its derived order has None before every Some, and no candidate comes behind all (`in_numbers`, `candidate_at`).
 #[derive(Clone, Copy, PartialEq, Eq, PartialOrd, Ord)]
 pub struct Rank(pub u64, pub u64);

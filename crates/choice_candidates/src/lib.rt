@@ -6,7 +6,7 @@ ghost use Rattle.choice.specs.Choose.{chosen_hop, number_of, shown_port, shown_h
 
 use choice::Candidate;
 
-// What is shown where no clock is chosen.
+// What is shown where no clock is chosen: document 01 prints FF FF, two bytes also without a clock.
 const NONE_SHOWN: u8 = 255;
 
 // The held hop of the chosen clock, the last one where there is none.
@@ -17,7 +17,7 @@ pub fn chosen_hop(choice: Option<Candidate>) -> u8
     choice.map_or(choice_hop::LAST_HOP, |clock| clock.hop)
 }
 
-// The number of the chosen clock, 0 where there is none.
+// The number of the chosen clock, 0 where there is none: no Option, `number_of` is a number, and Send looks up samples by it whatever is chosen (`send_of`).
 pub fn number(choice: Option<Candidate>) -> u8
     ensures { result ≡ number_of choice }
 {

@@ -5,6 +5,7 @@ ghost use Rattle.std.specs.Prelude.{◌≡◌, ◌<◌};
 ghost use Rattle.choice.specs.Hop.{last_hop, jump_of, hop_of};
 
 // The last hop: no frame with it is taken, and it stands for the chosen clock's where there is none.
+// No Option for that: document 01 says of H "255 if none".
 pub const LAST_HOP: u8 = 255;
 
 // The jump of a frame with hop h from beyond the chosen clock: half way to the last hop, and never less than a single step.

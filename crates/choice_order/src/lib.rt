@@ -6,6 +6,8 @@ ghost use Rattle.choice.specs.Precedence.{high_of, precedence_of, key_of};
 
 use choice::Precedence;
 
+// `precedes`, `equals` and `key_precedes` are one comparison each: their clauses tie the derived orders to `precedence_of` and `key_of`, which callers cite.
+
 // The weights of the parts above the clock's identity.
 const SOURCE_WEIGHT: u64 = 0x100_0000;
 

@@ -32,13 +32,9 @@ pub fn passes_by_rule(hop: u8) -> u8
 pub fn agrees(table: &[u8]) -> bool
     ensures { result ≡ agrees_of table.now }
 {
-    if table.len() != HOPS {
-        return false;
-    }
-    for (hop, passes) in table.iter().enumerate() {
-        if *passes != passes_by_rule(hop as u8) {
-            return false;
-        }
-    }
-    true
+    table.len() == HOPS
+        && table
+            .iter()
+            .enumerate()
+            .all(|(hop, passes)| *passes == passes_by_rule(hop as u8))
 }

@@ -12,7 +12,7 @@ use choice_ranks::NO_RANK;
 use std::mem;
 
 // One place for the own clock and one for each port.
-const PLACES: usize = 9;
+pub const PLACES: usize = 9;
 
 const LAST_PLACE: usize = PLACES - 1;
 
@@ -23,27 +23,24 @@ pub const CHOSEN: usize = 0;
 const NUMBERS: u64 = 0x100;
 
 // The ranking of a station whose ports announce nothing: its own clock, where it is capable.
-pub fn alone(capable: bool, own: Precedence) -> [Rank; 9]
+pub fn alone(capable: bool, own: Precedence) -> [Rank; PLACES]
     ensures { result ≡ places_of places (placed_of (own_candidate capable own) []) }
 {
-    let mut ranking = [NO_RANK; 9];
+    let mut ranking = [NO_RANK; PLACES];
     ranking[CHOSEN] = choice_ranks::own(capable, own);
     ranking
 }
 
 // The candidate at a place, the best at 0.
-pub fn candidate_at(ranking: &[Rank; 9], place: usize) -> Option<Candidate>
+pub fn candidate_at(ranking: &[Rank; PLACES], place: usize) -> Option<Candidate>
     requires { Kept ranking.now }
     ensures { result ≡ candidate_in ranking.now place }
 {
-    if place < PLACES {
-        return choice_ranks::candidate(ranking[place]);
-    }
-    None
+    choice_ranks::candidate(*ranking.get(place)?)
 }
 
 // The place of the clock with a number, where one has it.
-fn place_of(ranking: &[Rank; 9], number: u8) -> Option<usize>
+fn place_of(ranking: &[Rank; PLACES], number: u8) -> Option<usize>
     ensures { result ≡ position (λ rank. port_in rank.1 == number) ranking.now }
 {
     ranking
@@ -52,7 +49,7 @@ fn place_of(ranking: &[Rank; 9], number: u8) -> Option<usize>
 }
 
 // Takes a place out: those behind it move one place up.
-fn close(ranking: &mut [Rank; 9], place: usize)
+fn close(ranking: &mut [Rank; PLACES], place: usize)
     requires whole { Whole ranking.old }
     requires place_lt_places { place < places }
     ensures { ranking.new ≡ closed_at_of place ranking.old }
@@ -62,7 +59,8 @@ fn close(ranking: &mut [Rank; 9], place: usize)
 }
 
 // Puts a rank in before the first that is greater: that one and those behind it move one place down.
-fn insert(ranking: &mut [Rank; 9], rank: Rank)
+// One walk that moves as it goes, as `inserted_in` goes down the list; no search and copy_within, whose last place would be a case of its own.
+fn insert(ranking: &mut [Rank; PLACES], rank: Rank)
     ensures { ranking.new ≡ inserted_in rank ranking.old }
 {
     let mut moved = rank;
@@ -74,7 +72,8 @@ fn insert(ranking: &mut [Rank; 9], rank: Rank)
 }
 
 // What a port announces takes the place of what stood under its number, where that is another rank.
-pub fn update(ranking: &mut [Rank; 9], announcement: Option<Announcement>, number: u8)
+// The test stands within the search's branch: it is of the place found, and where none is found the rank is put in as well.
+pub fn update(ranking: &mut [Rank; PLACES], announcement: Option<Announcement>, number: u8)
     requires { Kept ranking.old }
     ensures { Updates number (candidate_of number announcement) ranking.old ranking.new }
 {

@@ -69,17 +69,16 @@ pub fn own(capable: bool, precedence: Precedence) -> Rank
 pub fn announced(announcement: Option<Announcement>, number: u8) -> Rank
     ensures { Ranks result (candidate_of number announcement) }
 {
-    match announcement {
-        None => NO_RANK,
-        Some(heard) => clock(Candidate {
+    announcement.map_or(NO_RANK, |heard| {
+        clock(Candidate {
             precedence: heard.precedence,
             hop: heard.hop,
             number,
-        }),
-    }
+        })
+    })
 }
 
-// Whether the first rank is less.
+// Whether the first rank is less. This and `same` are one comparison each: their clauses tie the derived orders to `worth_of` and `same_rank_of`, which callers cite.
 pub fn precedes(a: Rank, b: Rank) -> bool
     ensures { result ≡ ltb (worth_of a) (worth_of b) }
 {
@@ -93,7 +92,7 @@ pub fn same(a: Rank, b: Rank) -> bool
     a == b
 }
 
-// The precedence in a rank.
+// The precedence in a rank. The casts here and in `candidate` keep every bit: each is after a % by the values that its type has, or of an upper number, whose quotient is a byte; a TryFrom would answer a refusal that can't come.
 #[tactic(auto, unfolding(choice::specs::Rank::precedence_at))]
 fn precedence(rank: Rank) -> Precedence
     requires { rank.1 < lower_end }

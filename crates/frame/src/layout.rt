@@ -9,7 +9,7 @@ pub const FRAME_LENGTH: usize = 64;
 // How many numbers stand in a frame.
 pub const ROWS: usize = 24;
 
-// The rows of the table, each with the place of its number.
+// The rows of the table, each with the place of its number: places in `widths`, and no enum, since they index it.
 pub const DA: usize = 0;
 
 pub const SA: usize = 1;

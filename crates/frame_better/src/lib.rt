@@ -17,9 +17,7 @@ const PRECEDENCE_END: usize = 29;
 fn standing(frame: &[u8]) -> Option<Standing>
     ensures { result ≡ standing_of frame.now }
 {
-    let Ok(f) = frame_read::read(frame) else {
-        return None;
-    };
+    let f = frame_read::read(frame).ok()?;
     if f.hop == choice_hop::LAST_HOP {
         return None;
     }

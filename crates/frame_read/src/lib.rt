@@ -37,6 +37,7 @@ fn constants_refusal(values: &[u64; ROWS]) -> Result<(), Refusal>
     Ok(())
 }
 
+// The casts from here on keep every bit: `Held widths`, which the three functions ask, says that each number fits its row's width, so a TryFrom would answer a refusal that can't come.
 // The sender's address.
 fn mac(values: &[u64; ROWS]) -> Mac
     requires { Held widths values.now }

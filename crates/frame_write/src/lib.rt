@@ -48,11 +48,10 @@ fn values(f: &Fields) -> [u64; ROWS]
 fn write_refusal(f: &Fields, room: usize) -> Result<(), Refusal>
     ensures { result ≡ write_refusal f.now room }
 {
-    if f.grand.0 >= grand::SECOND
-        || f.grand.1 >= grand::SECOND
-        || f.local.0 >= local::CIRCLE
-        || f.tx.0 >= local::CIRCLE
-        || f.rx.0 >= local::CIRCLE
+    if !grand::is_in_range(f.grand)
+        || !local::is_on_circle(f.local)
+        || !local::is_on_circle(f.tx)
+        || !local::is_on_circle(f.rx)
     {
         return Err(Refusal::OutOfRange);
     }

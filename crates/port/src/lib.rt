@@ -1,4 +1,4 @@
-// One port's record and the own clock's, and what each event makes of them.
+// One port's record and the own clock's, what a station is set to, and what an event is answered with.
 #![tactic(auto)]
 
 pub mod record;
@@ -57,6 +57,7 @@ pub struct Sender {
 }
 
 // What a frame, a send or a reading of the own clock is answered with, and the record after it.
+// Not one with `bridge::Done<A>`: this is generic in the record, that in what an answer carries, and `Done` is named in promises.
 #[derive(Clone, Copy)]
 pub struct Outcome<R> {
     pub answer: Result<(), Refusal>,

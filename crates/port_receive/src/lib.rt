@@ -20,6 +20,7 @@ fn same_clock(announcement: Option<Announcement>, precedence: Precedence) -> boo
     announcement.is_some_and(|held| choice_order::equals(held.precedence, precedence))
 }
 
+// `LawfulPort` and `FieldsInRange` are asked of each function here and are no invariants of the types: `received_of` and its theorems are of plain records, which a frame from outside may be.
 // What is stored of a frame that is taken, with its delay and its held hop: steps 4 and 5.
 fn stored(port: Port, f: Fields, hop: u8, p: LocalTime, delay: u64, at: LocalTime) -> Port
     requires lawful_port { LawfulPort port }

@@ -33,6 +33,7 @@ fn echo_rx(echo: Option<Pair>) -> LocalTime
     echo.map_or(LocalTime(0), |pair| pair.here)
 }
 
+// The sender, version, time and port go through these functions one by one, and with them what is asked of backTime: `sending_of` and the theorems on Send take these parts, and the version is that of one port.
 // The fields of every frame, whatever it says of a clock.
 fn fields(
     sender: Sender,

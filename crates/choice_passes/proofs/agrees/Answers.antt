@@ -1,26 +1,20 @@
--- The loop goes over every hop: what is left of the test is the test from that hop on.
-use Rattle.std.proofs.Common.{sym, ◌∙◌}
-use Rattle.choice.proofs.PassesLaws.{test_length, test_start, test_fails, test_onward, test_end}
+-- Of a table with an entry for each hop, every entry is tested at its hop.
+use Rattle.std.proofs.Common.{rules, tests, sym, ◌∙◌}
+use Rattle.std.proofs.lemmas.Iterator.{YieldsList-from_slice}
+use Rattle.std.proofs.lemmas.Iterator.Consumers.{YieldsList-from_enumerate}
+use Rattle.std.proofs.lemmas.Iterator.Search.{all_from_yields_List}
+use Rattle.choice.proofs.PassesLaws.{test_length, test_start}
+use borrow.Author.Tests.{ne_eqb}
+use Rattle.choice_passes.proofs.Entries.{entry_fits, entries_agree}
 use Rattle.choice_passes.proofs.agrees.Goals as goal
 
-pub returns-then-table-ne-HOPS : goal.returns-then-table-ne-HOPS
-returns-then-table-ne-HOPS c = sym (test_length _ c.if-table-ne-HOPS.true)
+pub returns-then-table-eq-HOPS : goal.returns-then-table-eq-HOPS
+returns-then-table-eq-HOPS c =
+    let table = c.args.table.now in
+    all_from_yields_List entry_fits c.all.new.self _ c.all.result c.all.ensures.ran
+    (YieldsList-from_enumerate (YieldsList-from_slice table cc) c.enumerate.ensures.count) (λ x b q k. search (rules, tests))
+    ∙ entries_agree 0 table
+    ∙ sym (test_start table c.if-table-eq-HOPS.true)
 
-pub loop-hop-init : goal.loop-hop-init
-loop-hop-init c = test_start _ c.if-table-ne-HOPS.false
-
--- an entry that is not the passes left at its hop
-pub returns-then-passes-passes_by_rule : goal.returns-then-passes-passes_by_rule
-returns-then-passes-passes_by_rule c =
-    let l = c.loop-hop in
-    sym (l.invariant ∙ test_fails _ l.hop c.loop-hop-test.true (λ e. c.if-passes-passes_by_rule.true (e ∙ sym c.passes_by_rule.ensures)))
-
--- and one that is
-pub loop-hop-preserved : goal.loop-hop-preserved
-loop-hop-preserved c =
-    let l = c.loop-hop in
-    l.invariant ∙ test_onward _ l.hop c.loop-hop-test.true (c.if-passes-passes_by_rule.false ∙ c.passes_by_rule.ensures)
-
--- past the last hop
-pub returns : goal.returns
-returns c = sym (c.loop-hop.invariant ∙ test_end _ c.loop-hop.hop c.loop-hop-test.false)
+pub returns-else-table-eq-HOPS : goal.returns-else-table-eq-HOPS
+returns-else-table-eq-HOPS c = ne_eqb _ _ c.if-table-eq-HOPS.false ∙ sym (test_length _ c.if-table-eq-HOPS.false)

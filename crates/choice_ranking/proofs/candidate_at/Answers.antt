@@ -9,18 +9,22 @@ use Rattle.choice.proofs.PlacesLaws.{kept_rank}
 use Rattle.choice_ranking.proofs.PlaceLoops.{read_rank}
 use Rattle.choice_ranking.proofs.candidate_at.Goals as goal
 
+pub returns-in_err-get : goal.returns-in_err-get
+unfolding candidate_in
+returns-in_err-get c =
+    let (t, u, v, beyond, w) = c.in_err-get.ensures.lookup in
+    c.from_residual.ensures ∙ if_false _ _ _ (le-ltb c.args.place places (omega (arith, c.told-ranking, beyond)))
+
 pub candidate-requires : goal.candidate-requires
 candidate-requires c =
     let (l, k) = c.requires in
-    let within : c.args.place < places = omega (arith, c.if-place-lt-PLACES.true) in
-    (ranked_at l c.args.place, subst (λ (r : Rank). Ranks r (ranked_at l c.args.place)) (sym (read_rank c.args.ranking.now c.args.place _ (omega (arith, c.told-ranking, within)))) (kept_rank k c.args.place within))
-
-pub returns-then-place-lt-PLACES : goal.returns-then-place-lt-PLACES
-unfolding candidate_in
-returns-then-place-lt-PLACES c =
-    let within : c.args.place < places = omega (arith, c.if-place-lt-PLACES.true) in
-    c.candidate.ensures ∙ ap candidate_at (read_rank c.args.ranking.now c.args.place _ (omega (arith, c.told-ranking, within))) ∙ if_true _ _ _ (lt-ltb c.args.place places within)
+    let (t, held, u, (inside, v), w) = c.in_ok-get.ensures.lookup in
+    let within : c.args.place < places = omega (arith, c.told-ranking, inside) in
+    (ranked_at l c.args.place, subst (λ (r : Rank). Ranks r (ranked_at l c.args.place)) (sym (held ∙ read_rank c.args.ranking.now c.args.place _ (omega (arith, c.told-ranking, within)))) (kept_rank k c.args.place within))
 
 pub returns : goal.returns
 unfolding candidate_in
-returns c = if_false _ _ _ (le-ltb _ _ c.if-place-lt-PLACES.false)
+returns c =
+    let (t, held, u, (inside, v), w) = c.in_ok-get.ensures.lookup in
+    let within : c.args.place < places = omega (arith, c.told-ranking, inside) in
+    c.candidate.ensures ∙ ap candidate_at (held ∙ read_rank c.args.ranking.now c.args.place _ (omega (arith, c.told-ranking, within))) ∙ if_true _ _ _ (lt-ltb c.args.place places within)
