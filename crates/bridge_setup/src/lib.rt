@@ -58,9 +58,12 @@ fn fresh(setup: Setup) -> Bridge
 pub fn setup(given: Setup) -> Done<()>
     ensures { DonePromise (setup_of given) result }
 {
-    let sender = given.sender;
-    if bridge_arguments::profile_fits(sender.profile, given.n, given.capable, sender.back)
-        && bridge_arguments::ranges_fit(given)
+    if bridge_arguments::profile_fits(
+        given.sender.profile,
+        given.n,
+        given.capable,
+        given.sender.back,
+    ) && bridge_arguments::ranges_fit(given)
     {
         // Returned here, since a state that two branches give is copied once more.
         return Done {
