@@ -5,7 +5,7 @@ ghost use Rattle.std.specs.Prelude.{◌≡◌, ◌<◌};
 ghost use Rattle.refusals.specs.Promises.{AnswerPromise};
 ghost use Rattle.times.specs.Times.{second, InRange};
 ghost use Rattle.bus.specs.Demands.{OnBus};
-ghost use Rattle.bus.specs.Bus.{second_ticks, is_grand, is_bus, tick_of, bus_time_of, outward_of, outward_refusal, tick_at, start_of, own_second, next_of, before_end, inward_of, inward_refusal, cycle_time_of, register_of, register_refusal, fields_of};
+ghost use Rattle.bus.specs.Bus.{second_ticks, is_bus, tick_of, bus_time_of, outward_of, outward_refusal, tick_at, start_of, own_second, next_of, before_end, inward_of, inward_refusal, cycle_time_of, register_of, register_refusal, fields_of};
 
 use bus::{BusTime, CycleTime};
 use refusals::Refusal;
@@ -30,13 +30,6 @@ const REGISTER_CYCLE: u64 = 0x1000;
 
 const REGISTER_CYCLES: u64 = 0x2000;
 
-// Whether seconds and fraction of a grand time are in range.
-fn is_grand(time: GrandTime) -> bool
-    ensures { result ≡ is_grand time }
-{
-    time.0 < grand::SECOND && time.1 < grand::SECOND
-}
-
 // Whether the fields of a bus time are in range.
 fn is_bus(time: BusTime) -> bool
     ensures { result ≡ is_bus time }
@@ -58,7 +51,7 @@ fn tick_of(fraction: u64) -> u64
 pub fn outward(time: GrandTime) -> Result<BusTime, Refusal>
     ensures { AnswerPromise (outward_of time) (outward_refusal time) (bus_time_of time) result }
 {
-    if !is_grand(time) {
+    if !grand::is_in_range(time) {
         return Err(Refusal::OutOfRange);
     }
     let tick = tick_of(time.1);
@@ -111,7 +104,7 @@ fn own_second(tick: u64, hint: GrandTime) -> Result<GrandTime, Refusal>
 pub fn inward(time: BusTime, hint: GrandTime) -> Result<GrandTime, Refusal>
     ensures { AnswerPromise (inward_of time hint) (inward_refusal time hint) (next_of time hint) result }
 {
-    if !is_bus(time) || !is_grand(hint) {
+    if !is_bus(time) || !grand::is_in_range(hint) {
         return Err(Refusal::OutOfRange);
     }
     let tick = tick_at(time);
@@ -123,6 +116,7 @@ pub fn inward(time: BusTime, hint: GrandTime) -> Result<GrandTime, Refusal>
 }
 
 // The bits of the bus's register that hold a bus time.
+// `as` takes off no bit, by `OnBus`; a `try_from` would answer a Result that can't fail.
 fn bits_of(time: BusTime) -> u32
     requires { OnBus time }
     ensures { result ≡ (cycle_time_of time).0 }

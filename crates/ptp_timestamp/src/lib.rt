@@ -41,7 +41,7 @@ fn fraction(nanosecond: u64) -> u64
 pub fn export(time: GrandTime) -> Result<PtpTime, Refusal>
     ensures { AnswerPromise (export_of time) (export_refusal time) (ptp_time_of time) result }
 {
-    if grand::SECOND <= time.0 || grand::SECOND <= time.1 {
+    if !grand::is_in_range(time) {
         return Err(Refusal::OutOfRange);
     }
     Ok(PtpTime(PtpSecond(time.0), nanosecond(time.1)))
