@@ -9,7 +9,7 @@ use refusals::Refusal;
 use samples::Pair;
 use times::{LocalTime, local};
 
-// How a port comes by its link delay.
+// How a port comes by its link delay. `Measured` is a setting, and no delay that is missing: so it is no `Option`.
 #[derive(Clone, Copy)]
 pub enum DelaySetting {
     Measured,
@@ -23,6 +23,8 @@ pub const LONGEST_DELAY: u64 = 0x4000_0000;
 
 // A trip goes both ways.
 const WAYS: u64 = 2;
+
+// The bound of a rate is a clause, and the rate a plain i64: `delay_of` and `measured_of`, which say the delay, are functions of whole numbers.
 
 // Half of what the round trip has beyond the neighbour's turn.
 pub fn half_trip(rate: i64, trip: u64, turn: u64) -> u64

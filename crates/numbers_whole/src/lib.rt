@@ -1,4 +1,5 @@
 // Signed numbers. The signed operators of the language stand in this file and nowhere above it.
+// `abs`, `is_negative`, `from_unsigned`, `add`, `sub` and `mul` each wrap one operation: their contracts say once, over whole numbers, that no bit is lost.
 #![tactic(auto)]
 
 ghost use Rattle.std.specs.Prelude.{◌≡◌, ◌+◌, ◌*◌, ◌/◌, ◌<◌, ◌^◌, pos, nat_abs, ◌+ℤ◌, ◌-ℤ◌, ◌*ℤ◌};
@@ -6,6 +7,7 @@ ghost use Rattle.std.specs.Int.Signed.{lt_z};
 ghost use Rattle.numbers.specs.Whole.{floor_div, nearest_div, at_least_zero};
 
 // The floor of z / m, also where z is below zero.
+// No `div_euclid`: that takes an i64, and the clause asks only that m is above 0, so it may have all 64 bits.
 pub fn floor_div(z: i64, m: u64) -> i64
     requires { 0 < m }
     ensures { result ≡ floor_div z m }

@@ -12,6 +12,7 @@ pub struct Sample {
 }
 
 // What is kept of a clock, the oldest sample first.
+// That it is lawful is a clause of its users (`LawfulSamples`): an enum can have no invariant, and a struct around it, opened at every match, is no plainer.
 #[derive(Clone, Copy)]
 pub enum Samples {
     Empty,

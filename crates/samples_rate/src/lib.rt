@@ -15,7 +15,7 @@ const LONGEST: u64 = 0x80_0000_0000;
 // The least spread for one unit of gain.
 const PER_GAIN: u64 = 4000;
 
-// The parts in which a rate counts.
+// The parts in which a rate counts, with a sign and without: `i64::from` has no u64, and `From` is no const.
 const ONE: i64 = 0x8_0000_0000;
 
 const PARTS: u64 = 0x8_0000_0000;
@@ -45,6 +45,7 @@ pub fn rate(d: i64, s: u64) -> i64
 }
 
 // What a clock of this rate gains over a stretch u.
+// A rate is a plain i64, and its bound a clause: the definitions and laws speak of whole numbers (`scaled_of`, `advance_of`, `advance_small`, `ppm_exact`).
 pub fn scaled(rate: i64, u: i64) -> i64
     requires { (nat_abs rate ≤ steepest) × (nat_abs u ≤ longest_spread) }
     ensures { result ≡ scaled_of rate u }
@@ -61,22 +62,20 @@ pub fn advance(rate: i64, u: i64) -> i64
 }
 
 // The rate of a clock that rose by `rise` over a spread s, 0 where the limits do not hold.
+#[tactic(auto, using(samples::proofs::RateLaws::within_gain))]
 pub fn rate_of_rise(rise: u64, s: u64) -> i64
     requires { rise < 2 ^ 48 }
     ensures { result ≡ rate_within (gain_of (pos rise) s) s }
 {
-    match gained(rise, s) {
-        Some(d) => rate(d, s),
-        None => 0,
-    }
+    gained(rise, s).map_or(0, |d| rate(d, s))
 }
 
 // The neighbour's rate, from the stored pair to the new one; 0 where there is none.
+#[tactic(auto, unfolding(samples::specs::Rate::neighbour_rate_of), using(times::proofs::TimeLaws::since_lt))]
 pub fn neighbour_rate(pair: Option<Pair>, local: LocalTime, p: LocalTime) -> i64
     ensures { result ≡ neighbour_rate_of pair local p }
 {
-    let Some(pair) = pair else {
-        return 0;
-    };
-    rate_of_rise(local::since(p, pair.here), local::since(local, pair.there))
+    pair.map_or(0, |pair| {
+        rate_of_rise(local::since(p, pair.here), local::since(local, pair.there))
+    })
 }

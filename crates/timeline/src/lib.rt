@@ -28,6 +28,8 @@ pub enum Drift {
     Refused,
 }
 
+// The bound of a rate is a clause, here and in the modules below: `reading_by`, `error_by` and `ppm_of`, and the laws `step_small`, `error_small` and `ppm_exact`, speak of plain whole numbers.
+
 // The line of this rate read at a distance x from the newest sample, before it where x is below zero, and `more` added.
 pub fn reading(newest: Sample, rate: i64, x: i64, more: u64) -> Option<GrandTime>
     requires in_range { InRange newest.grand }

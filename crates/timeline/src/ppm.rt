@@ -12,6 +12,8 @@ const MILLION: i64 = 1000000;
 
 const PARTS: f64 = 34359738368.0;
 
+// `as f64` below: there is no `From<i64>` for f64. The law `ppm_exact` says that nothing is rounded.
+
 // A rate in parts per million, exactly.
 pub fn parts_per_million(rate: i64) -> f64
     requires { nat_abs rate ≤ steepest }
