@@ -61,6 +61,7 @@ pub fn parts(frame: &[u8]) -> [u64; ROWS]
 {
     let mut values = [0; ROWS];
     let mut at = 0;
+    // tried: values.iter_mut().zip(&WIDTHS), where the invariant has no name for the values that the iterator holds lent.
     for (row, width) in WIDTHS.iter().enumerate() {
         values[row] = numbers_bytes::number_at(frame, at, *width);
         at += *width;
