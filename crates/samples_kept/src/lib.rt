@@ -19,6 +19,7 @@ pub fn gain_between(a: Sample, b: Sample) -> Option<i64>
 }
 
 // The rate of a clock from its oldest kept sample to its newest.
+// tried: `map_or`. That there is a gain follows from `LawfulEnds`, and `returns` does not close behind the closure.
 pub fn rate_between(oldest: Sample, newest: Sample) -> i64
     requires { LawfulEnds oldest newest }
     ensures { result ≡ rate_between oldest newest }
