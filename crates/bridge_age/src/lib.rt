@@ -24,9 +24,9 @@ fn aged(b: &mut Bridge, at: u64) -> Result<(), Refusal>
     let timeout = b.setup.timeout;
     if b.ports.iter().any(|held| record::too_old(held.announcement, LocalTime(at), timeout)) {
         for i in 0..PORTS {
-            let after = record::aged(b.ports[i], LocalTime(at), timeout);
-            choice_ranking::update(&mut b.ranking, after.announcement, (i + 1) as u8);
-            b.ports[i] = after;
+            let held = &mut b.ports[i];
+            record::age(held, LocalTime(at), timeout);
+            choice_ranking::update(&mut b.ranking, held.announcement, (i + 1) as u8);
         }
     }
     Ok(())

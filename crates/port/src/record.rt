@@ -38,19 +38,14 @@ pub fn too_old(announcement: Option<Announcement>, at: LocalTime, timeout: u64) 
     announcement.is_some_and(|held| timeout <= local::since(at, held.heard_at))
 }
 
-// The record without announcement, samples and echo, where the announcement is as old as the timeout.
+// Takes announcement, samples and echo out of a record whose announcement is as old as the timeout.
 #[tactic(auto, unfolding(crate::specs::Record::aged_port))]
-pub fn aged(port: Port, at: LocalTime, timeout: u64) -> Port
-    ensures { result ≡ aged_port at timeout port }
+pub fn age(port: &mut Port, at: LocalTime, timeout: u64)
+    ensures { port.new ≡ aged_port at timeout port.old }
 {
     if too_old(port.announcement, at, timeout) {
-        Port {
-            announcement: None,
-            samples: Samples::Empty,
-            echo: None,
-            ..port
-        }
-    } else {
-        port
+        port.announcement = None;
+        port.samples = Samples::Empty;
+        port.echo = None;
     }
 }

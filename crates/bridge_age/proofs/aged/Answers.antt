@@ -22,7 +22,7 @@ update-requires c = (_, ranking_keeps _ c.loop-i.invariant.lawful)
 pub loop-i-preserved : goal.loop-i-preserved
 loop-i-preserved c =
     let l = c.loop-i in
-    let aged = c.aged-after.ensures in
+    let aged = c.age.ensures in
     stored_more _ _ l.i _ l.invariant _ _ c.loop-i-test.true aged (subst LawfulPort (sym aged) (aged_lawful _ _ _ (l.invariant.lawful.ports_lawful l.i))) c.update.ensures
 
 pub returns-after-loop-i : goal.returns-after-loop-i
