@@ -1,6 +1,7 @@
 -- What a turn promises: the bytes that it takes, what they print, and the session that they leave.
 use Rattle.std.specs.Prelude.{◌≡◌, List, ℕ, ◌<◌, ◌≤◌, length, take}
 use Rattle.bridge.specs.State.{Lawful}
+use Rattle.session_programs.specs.Programs.{Rules}
 use Rattle.session.specs.declared.Session.{Session}
 use Rattle.session.specs.declared.Progress.{Progress}
 use Rattle.session.specs.Lines.{kept_bytes, part, Fed, fed_of, Within}

@@ -1,12 +1,13 @@
 -- Line by line: what the lines so far lead to and print, and what is filled stays within the output.
 use Rattle.std.proofs.Common.{refl, sym, ◌∙◌, arith, take, inl, inr}
 use Rattle.session.proofs.LineLaws.{Adds, adds, next_after, lines_none, lines_on}
+use Rattle.session.proofs.lines.whole_lines.Given as given
 use Rattle.session.proofs.lines.whole_lines.Goals as goal
 use Rattle.session.proofs.lines.whole_lines.Goals.{Joined-asks, then-asks, else-asks}
 
 -- what a turn adds, whether its line asks or not
-line-adds : {g : _} (c : Joined-asks g) → Adds (g.P.Program.rules.answer c.loop-end.next c.line-shown.result.now) c.loop-end.out c.loop-end.n c.if-asks.next c.if-asks.out c.if-asks.n
-line-adds {g} c =
+line-adds : (g : given.Over) (c : Joined-asks g) → Adds (g.P.Program.rules.answer c.loop-end.next c.line-shown.result.now) c.loop-end.out c.loop-end.n c.if-asks.next c.if-asks.out c.if-asks.n
+line-adds g c =
     let l = c.loop-end in
     let v = l.invariant in
     let shown = c.line-shown.result.now in
@@ -44,7 +45,7 @@ loop-end-preserved g c =
     let l = c.loop-end in
     let a = c.args in
     let v = l.invariant in
-    let x = line-adds (goal.at.loop-end-preserved g c).Joined-asks in
+    let x = line-adds g (goal.at.loop-end-preserved g c).Joined-asks in
     record {
       lawful = x.lawful;
       stands = inr (refl, omega (arith, v.ends, next_after a.first.now a.bytes.now a.from l.held l.n l.start v.stands));
