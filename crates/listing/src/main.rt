@@ -1,9 +1,9 @@
 // The listing program: lines of a port, an arrival and a frame; prints what the bridge answers and which clock is chosen then.
 #![tactic(auto)]
 
-use session_programs::Program;
+use session_programs::Listing;
 use std::process::ExitCode;
 
 fn main(rt: HostRuntime) -> ExitCode {
-    stdio::run_here(Program::Listing, rt)
+    stdio::run_here::<Listing>(rt)
 }

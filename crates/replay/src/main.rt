@@ -1,9 +1,9 @@
 // The replay program: one call of the library for each line of text, and one line printed for each.
 #![tactic(auto)]
 
-use session_programs::Program;
+use session_programs::Replay;
 use std::process::ExitCode;
 
 fn main(rt: HostRuntime) -> ExitCode {
-    stdio::run_here(Program::Replay, rt)
+    stdio::run_here::<Replay>(rt)
 }

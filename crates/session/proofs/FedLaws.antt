@@ -1,6 +1,6 @@
 -- Laws of lines one after the other, and of what is kept of a line.
 use mathlib.Core.Path.{◌≡◌, refl, sym, ap, ◌∙◌}
-use mathlib.Core.Bool.{Bool, true, false, cond, true≢false}
+use mathlib.Core.Bool.{Bool, true, false, cond}
 use mathlib.Core.List.{List, [], ◌∷◌, ◌++◌, append-nil, append_assoc}
 use Prim.Native.Nat.{ℕ, zero, suc, ◌+◌, ◌-◌, ◌<◌, ◌≤◌, min}
 use native.Mathlib.Omega.{arith}
@@ -10,21 +10,14 @@ use lib.ListN.{length, take, drop, length-append, length-take, length-drop}
 use native.Mathlib.Nat.{lt_of_not-le}
 use native.Mathlib.Decide.{dec_le}
 use lib.Seq.{drop-drop, take-add, take-append-add, append_snoc, take_all, take_at, length-take-le}
-use Rattle.refusals.specs.Refusals.{bad_line as badNumber}
 use Rattle.bridge.specs.declared.Bridge.{Bridge}
 use Rattle.hexadecimal.specs.Search.{up_to, found_at}
-use Rattle.answer.specs.Answer.{Answer, refused_line}
-use Rattle.capture.specs.Capture.{listed_as}
+use Rattle.answer.specs.Answer.{Answer}
 use Rattle.replay_grammar.specs.Line.{longest_line}
-use Rattle.session_programs.specs.declared.Program.{Program}
-use Rattle.session_programs.specs.declared.Program.TheVariants.{Listing, Replay, Stamps}
-use Rattle.session_programs.specs.Programs.{answer_by, asks_by}
+use Rattle.session_programs.specs.Programs.{Rules, ProgramLaws}
 use Rattle.session.specs.Lines.{kept_bytes, part, Fed, left, saying, ended, fed_of, kept_text}
 use Rattle.hexadecimal.specs.Character.{newline}
 use Rattle.hexadecimal.proofs.SearchLaws.{up_taken}
-use Rattle.capture.proofs.CaptureLaws.{listed_long}
-use Rattle.latch.proofs.LatchLaws.{latch_stays, latch_long}
-use Rattle.replay_calls.proofs.AnswerLaws.{asks_stays, answer_long}
 
 -- ---- lists
 
@@ -88,7 +81,7 @@ until_newline s = up_to newline s
 abbrev pub answered : Answer → Fed
 answered a = ended a.next a.text
 
-module _ (p : Program) where
+module _ (p : Rules) where
   -- ---- one part of the bytes after the other
 
   -- what holds of both ways on holds whichever is taken
@@ -109,7 +102,7 @@ module _ (p : Program) where
   unfolding fed_of
   fed_parts [] t line b = refl
   fed_parts (c ∷ s) t line b =
-      let a = answer_by p b line in
+      let a = p.answer b line in
       let more = line ++ (c ∷ []) in
       let f = fed_of p a.next [] s in
       both_ways (Joins t) (saying a.text (fed_of p a.next [] (s ++ t))) (fed_of p b more (s ++ t)) (saying a.text f) (fed_of p b more s)
@@ -118,17 +111,17 @@ module _ (p : Program) where
 
   -- the first line of the bytes
   fed_line : (s line : List ℕ) (b : Bridge) → length (until_newline s) < length s
-      → fed_of p b line (take (suc (length (until_newline s))) s) ≡ answered (answer_by p b (line ++ until_newline s))
+      → fed_of p b line (take (suc (length (until_newline s))) s) ≡ answered (p.answer b (line ++ until_newline s))
   unfolding fed_of up_to
   fed_line [] line b h = absurd (omega arith)
   fed_line (c ∷ s) line b h = go (fed_line s (line ++ (c ∷ [])) b) (eqb c newline) h
     where
-      go : (length (until_newline s) < length s → fed_of p b (line ++ (c ∷ [])) (take (suc (length (until_newline s))) s) ≡ answered (answer_by p b (line ++ (c ∷ []) ++ until_newline s)))
+      go : (length (until_newline s) < length s → fed_of p b (line ++ (c ∷ [])) (take (suc (length (until_newline s))) s) ≡ answered (p.answer b (line ++ (c ∷ []) ++ until_newline s)))
           → (e : Bool) → let u = cond e [] (c ∷ until_newline s) in length u < length (c ∷ s)
-          → cond e (saying (answer_by p b line).text (fed_of p (answer_by p b line).next [] (take (length u) s))) (fed_of p b (line ++ (c ∷ [])) (take (length u) s))
-          ≡ answered (answer_by p b (line ++ u))
-      go rest true k = ap (ended (answer_by p b line).next) (append-nil (answer_by p b line).text) ∙ ap (λ (x : List ℕ). answered (answer_by p b x)) (sym (append-nil line))
-      go rest false k = rest (omega arith) ∙ ap (λ (x : List ℕ). answered (answer_by p b x)) (append_snoc line c (until_newline s))
+          → cond e (saying (p.answer b line).text (fed_of p (p.answer b line).next [] (take (length u) s))) (fed_of p b (line ++ (c ∷ [])) (take (length u) s))
+          ≡ answered (p.answer b (line ++ u))
+      go rest true k = ap (ended (p.answer b line).next) (append-nil (p.answer b line).text) ∙ ap (λ (x : List ℕ). answered (p.answer b x)) (sym (append-nil line))
+      go rest false k = rest (omega arith) ∙ ap (λ (x : List ℕ). answered (p.answer b x)) (append_snoc line c (until_newline s))
 
   -- and before its newline
   fed_rest : (s line : List ℕ) (b : Bridge) → fed_of p b line (until_newline s) ≡ left b (line ++ until_newline s)
@@ -151,12 +144,12 @@ module _ (p : Program) where
     until_end = sym (rw size (up_taken newline (drop from bytes)))
 
     -- the line that ends at a place, with its newline and without
-    pub line_fed : end < length bytes → fed_of p b line (part bytes from (end + 1)) ≡ answered (answer_by p b (line ++ part bytes from end))
+    pub line_fed : end < length bytes → fed_of p b line (part bytes from (end + 1)) ≡ answered (p.answer b (line ++ part bytes from end))
     line_fed h =
         let n : end + 1 - from ≡ suc (length (until_newline (drop from bytes))) = omega (arith, size) in
         ap (λ (k : ℕ). fed_of p b line (take k (drop from bytes))) n
         ∙ fed_line (drop from bytes) line b (rw (length-drop from bytes) (omega arith))
-        ∙ ap (λ (x : List ℕ). answered (answer_by p b (line ++ x))) until_end
+        ∙ ap (λ (x : List ℕ). answered (p.answer b (line ++ x))) until_end
 
     pub rest_fed : fed_of p b line (part bytes from end) ≡ left b (line ++ part bytes from end)
     rest_fed = rw (← until_end) (fed_rest (drop from bytes) line b)
@@ -172,32 +165,13 @@ module _ (p : Program) where
 
   -- ---- a line that is too long
 
-  -- is answered as bad by each program
-  abbrev bad_by : Program → Bridge → Answer
-  bad_by Listing b = listed_as b badNumber
-  bad_by Replay b = refused_line b
-  bad_by Stamps b = listed_as b badNumber
-
-  long_answer : (p : Program) (b : Bridge) (s : List ℕ) → longest_line < length s → bad_by p b ≡ answer_by p b s
-  long_answer Listing b s h = listed_long b s (omega arith)
-  long_answer Replay b s h = answer_long b s h
-  long_answer Stamps b s h = listed_long b s (omega arith) ∙ latch_long b s (omega arith)
-
-  -- so what is kept of a line is answered as the whole line is
-  pub kept_answers : (b : Bridge) (line : List ℕ) → answer_by p b (take kept_bytes line) ≡ answer_by p b line
-  kept_answers b line = by (ltb longest_line (length line)) refl
+  -- is answered as every such line, so what is kept of a line is answered as the whole line is
+  pub kept_answers : ProgramLaws p → (b : Bridge) (line : List ℕ) → p.answer b (take kept_bytes line) ≡ p.answer b line
+  kept_answers laws b line = by (ltb longest_line (length line)) refl
     where
-      by : (long : Bool) → ltb longest_line (length line) ≡ long → answer_by p b (take kept_bytes line) ≡ answer_by p b line
+      by : (long : Bool) → ltb longest_line (length line) ≡ long → p.answer b (take kept_bytes line) ≡ p.answer b line
       by true e =
           let h = ltb-true longest_line (length line) e in
           let k : longest_line < length (take kept_bytes line) = rw (length-take kept_bytes line) (omega (arith, h)) in
-          sym (long_answer p b (take kept_bytes line) k) ∙ long_answer p b line h
-      by false e = ap (answer_by p b) (take_all kept_bytes line (omega (arith, ltb-false longest_line (length line) e)))
-
--- ---- the programs by their numbers
-
--- no program's line that asks changes the state
-pub asked_stays : (p : Program) (b : Bridge) (s : List ℕ) → asks_by p s ≡ true → (answer_by p b s).next ≡ b
-asked_stays Listing b s e = absurd (true≢false (sym e))
-asked_stays Replay b s e = asks_stays b s e
-asked_stays Stamps b s e = latch_stays b s e
+          laws.long_alike b (take kept_bytes line) line k h
+      by false e = ap (p.answer b) (take_all kept_bytes line (omega (arith, ltb-false longest_line (length line) e)))

@@ -7,8 +7,7 @@ use lib.ListN.{length, take}
 use Rattle.hexadecimal.specs.Character.{newline}
 use Rattle.bridge.specs.declared.Bridge.{Bridge}
 use Rattle.answer.specs.Answer.{Answer}
-use Rattle.session_programs.specs.declared.Program.{Program}
-use Rattle.session_programs.specs.Programs.{answer_by}
+use Rattle.session_programs.specs.Programs.{Rules, ProgramLaws}
 use Rattle.session.specs.Lines.{kept_bytes, fed_of}
 use Rattle.session.specs.Input.{lines_after, rest_text}
 use Rattle.session.proofs.FedLaws.{kept_answers}
@@ -33,17 +32,17 @@ empty_input = refl
 -- ---- what is left of a line
 
 -- a newline ends what is left, where something is
-pub newline_ends : (p : Program) (b : Bridge) (line : List ℕ) → 0 < length line → (fed_of p b line (newline ∷ [])).text ≡ rest_text p b line
+pub newline_ends : (p : Rules) (b : Bridge) (line : List ℕ) → 0 < length line → (fed_of p b line (newline ∷ [])).text ≡ rest_text p b line
 unfolding fed_of
 newline_ends p b [] h = absurd (omega arith)
-newline_ends p b (c ∷ line) h = append-nil (answer_by p b (c ∷ line)).text
+newline_ends p b (c ∷ line) h = append-nil (p.answer b (c ∷ line)).text
 
 -- an empty rest prints nothing
-pub no_rest : (p : Program) (b : Bridge) (line : List ℕ) → length line ≡ 0 → [] ≡ rest_text p b line
+pub no_rest : (p : Rules) (b : Bridge) (line : List ℕ) → length line ≡ 0 → [] ≡ rest_text p b line
 no_rest p b [] e = refl
 no_rest p b (c ∷ line) e = absurd (omega arith)
 
 -- what is kept of the rest prints what the whole rest does
-pub kept_rest : (p : Program) (b : Bridge) (line : List ℕ) → rest_text p b (take kept_bytes line) ≡ rest_text p b line
-kept_rest p b [] = refl
-kept_rest p b (c ∷ line) = ap (λ (a : Answer). a.text) (kept_answers p b (c ∷ line))
+pub kept_rest : (p : Rules) → ProgramLaws p → (b : Bridge) (line : List ℕ) → rest_text p b (take kept_bytes line) ≡ rest_text p b line
+kept_rest p laws b [] = refl
+kept_rest p laws b (c ∷ line) = ap (λ (a : Answer). a.text) (kept_answers p laws b (c ∷ line))

@@ -15,8 +15,7 @@ use Rattle.bridge.specs.State.{Lawful}
 use Rattle.bridge.specs.declared.Bridge.{Bridge}
 use Rattle.columns.specs.Columns.{longest_answer, Prints}
 use Rattle.answer.specs.Answer.{Answer}
-use Rattle.session_programs.specs.declared.Program.{Program}
-use Rattle.session_programs.specs.Programs.{answer_by}
+use Rattle.session_programs.specs.Programs.{Rules}
 use Rattle.session.specs.Lines.{part, line_end, Fed, saying, ended, fed_of, shown_of, Ends}
 use Rattle.session.proofs.FedLaws.{printed, answered, line_fed, more_fed}
 
@@ -78,7 +77,7 @@ Stands kept bytes from held n start = ((held ≡ length kept) × (n ≡ 0) × (s
 pub next_after : (kept bytes : List ℕ) (from held n start : ℕ) → Stands kept bytes from held n start → line_end bytes from < line_end bytes start + 1
 next_after kept bytes from held n start w = ⊎_elim (λ x. omega (arith, ap (line_end bytes) x.2)) (λ x. omega (arith, x.1)) w
 
-module _ (p : Program) (b : Bridge) (kept bytes : List ℕ) (from : ℕ) where
+module _ (p : Rules) (b : Bridge) (kept bytes : List ℕ) (from : ℕ) where
   -- where the kept line ends
   abbrev first : ℕ
   first = line_end bytes from
@@ -101,12 +100,12 @@ module _ (p : Program) (b : Bridge) (kept bytes : List ℕ) (from : ℕ) where
   -- and one more
   module _ (ends : Ends kept bytes from) (b₁ b₂ : Bridge) (shown t₁ t₂ : List ℕ) (held n start end : ℕ) (e : end ≡ line_end bytes start) (k : end < length bytes)
       (d : Goes held start b₁ t₁) (s : shown ≡ shown_of (take held kept) (part bytes start end))
-      (m : b₂ ≡ (answer_by p b₁ shown).next) (t : t₂ ≡ t₁ ++ (answer_by p b₁ shown).text) where
+      (m : b₂ ≡ (p.answer b₁ shown).next) (t : t₂ ≡ t₁ ++ (p.answer b₁ shown).text) where
     -- from the place where what is held goes on
     line_at : (at : ℕ) → first ≤ at → before at ≡ before start → end ≡ line_end bytes at → take held kept ++ part bytes at end ≡ shown → before (end + 1) ≡ ended b₂ t₂
     line_at at f same e₁ whole =
         more_fed p b b₁ kept (take held kept) bytes t₁ first at (end + 1) f (omega arith) (same ∙ d)
-        ∙ ap (saying t₁) (line_fed p b₁ (take held kept) bytes at end e₁ k ∙ ap (λ (x : List ℕ). answered (answer_by p b₁ x)) whole)
+        ∙ ap (saying t₁) (line_fed p b₁ (take held kept) bytes at end e₁ k ∙ ap (λ (x : List ℕ). answered (p.answer b₁ x)) whole)
         ∙ (λ i. ended (sym m i) (sym t i))
 
     -- the held line goes on at its newline

@@ -2,8 +2,7 @@
 use Rattle.std.specs.Prelude.{◌≡◌, cond, List, [], ◌∷◌, ◌++◌, ℕ, eqb}
 use Rattle.hexadecimal.specs.Character.{newline}
 use Rattle.bridge.specs.declared.Bridge.{Bridge}
-use Rattle.session_programs.specs.declared.Program.{Program}
-use Rattle.session_programs.specs.Programs.{answer_by}
+use Rattle.session_programs.specs.Programs.{Rules}
 use Rattle.session.specs.declared.Session.{Session}
 use Rattle.session.specs.Lines.{fed_of}
 use Rattle.session.specs.Session.{line_of, Leaves}
@@ -21,16 +20,16 @@ lines_after line [] = rest_lines line
 lines_after line (c ∷ s) = cond (eqb c newline) (line ∷ lines_after [] s) (lines_after (line ++ (c ∷ [])) s)
 
 -- what lines print, each in the state that the one before it leaves
-unfoldable pub lines_text : Program → Bridge → List (List ℕ) → List ℕ
+unfoldable pub lines_text : Rules → Bridge → List (List ℕ) → List ℕ
 lines_text p b [] = []
-lines_text p b (line ∷ lines) = (answer_by p b line).text ++ lines_text p (answer_by p b line).next lines
+lines_text p b (line ∷ lines) = (p.answer b line).text ++ lines_text p (p.answer b line).next lines
 
 -- ---- as it is read
 
 -- what the end of the input prints for what is left of a line
-abbrev pub rest_text : Program → Bridge → List ℕ → List ℕ
+abbrev pub rest_text : Rules → Bridge → List ℕ → List ℕ
 rest_text p b [] = []
-rest_text p b (c ∷ rest) = (answer_by p b (c ∷ rest)).text
+rest_text p b (c ∷ rest) = (p.answer b (c ∷ rest)).text
 
 -- a piece of the input, with the session that it leaves and what it prints
 pub record Piece : Type 0 where
@@ -54,11 +53,11 @@ session_after s [] = s
 session_after s (piece ∷ pieces) = session_after piece.after pieces
 
 -- a piece that is read where a session stands: the session that it leaves, and what it prints
-pub record Reads (p : Program) (s : Session) (piece : Piece) : Type 0 where
+pub record Reads (p : Rules) (s : Session) (piece : Piece) : Type 0 where
   pub leaves : Leaves (fed_of p s.bridge (line_of s) piece.bytes) piece.after
   pub prints : piece.text ≡ (fed_of p s.bridge (line_of s) piece.bytes).text
 
 -- pieces one after the other, each where the one before it leaves the session
-unfoldable pub ReadAll : Program → Session → List Piece → Type 0
+unfoldable pub ReadAll : Rules → Session → List Piece → Type 0
 ReadAll p s [] = Unit {0}
 ReadAll p s (piece ∷ pieces) = Reads p s piece × ReadAll p piece.after pieces

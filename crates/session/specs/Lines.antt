@@ -4,8 +4,7 @@ use Rattle.hexadecimal.specs.Character.{newline}
 use Rattle.hexadecimal.specs.Search.{found_at}
 use Rattle.bridge.specs.declared.Bridge.{Bridge}
 use Rattle.replay_grammar.specs.Line.{longest_line}
-use Rattle.session_programs.specs.declared.Program.{Program}
-use Rattle.session_programs.specs.Programs.{answer_by}
+use Rattle.session_programs.specs.Programs.{Rules}
 
 -- what is kept of a line: one byte more than the longest line of any program has
 abbrev pub kept_bytes : ℕ
@@ -38,10 +37,10 @@ abbrev pub ended : Bridge → List ℕ → Fed
 ended b text = record { next = b; line = []; text = text }
 
 -- bytes, where `line` came before them
-unfoldable pub fed_of : Program → Bridge → List ℕ → List ℕ → Fed
+unfoldable pub fed_of : Rules → Bridge → List ℕ → List ℕ → Fed
 fed_of p b line [] = left b line
 fed_of p b line (c ∷ s) =
-    cond (eqb c newline) (saying (answer_by p b line).text (fed_of p (answer_by p b line).next [] s)) (fed_of p b (line ++ (c ∷ [])) s)
+    cond (eqb c newline) (saying (p.answer b line).text (fed_of p (p.answer b line).next [] s)) (fed_of p b (line ++ (c ∷ [])) s)
 
 -- what is kept of a line once more of it is read
 abbrev pub kept_text : List ℕ → List ℕ → List ℕ

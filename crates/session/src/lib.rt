@@ -5,14 +5,13 @@ pub mod lines;
 
 ghost use Rattle.std.specs.Prelude.{◌≡◌, [], ◌≤◌, length, take};
 ghost use Rattle.columns.specs.Columns.{longest_answer};
-ghost use Rattle.session_programs.specs.Programs.{start_by};
 ghost use Rattle.session.specs.Input.{rest_text};
 ghost use Rattle.session.specs.Session.{line_of, Ready, Turned};
 
 use crate::lines::{NEWLINE, kept, whole_lines};
 use bridge::Bridge;
 use hexadecimal::search;
-use session_programs::{Program, first_bridge};
+use session_programs::Program;
 
 // What is kept from read to read: the bridge, and the line as far as it is read.
 // The line is an array with a length beside it, since memory is fixed: no heap is a rule of the project.
@@ -32,23 +31,23 @@ pub struct Progress {
 }
 
 // A program's session before the first line.
-pub fn start(program: Program) -> Session
+pub fn start<P: Program>() -> Session
     ensures ready { Ready result }
-    ensures bridge_value { result.bridge ≡ start_by program }
+    ensures bridge_value { result.bridge ≡ P.rules.start }
     ensures result_value { line_of result ≡ [] }
 {
     Session {
-        bridge: first_bridge(program),
+        bridge: P::first_bridge(),
         text: [0u8; 516],
         len: 0,
     }
 }
 
 // Answers lines that end in the bytes from `from` on, as long as the output has room; where none ends, keeps the start of one.
-pub fn turn(program: Program, s: Session, bytes: &[u8], from: usize, out: &mut [u8]) -> Progress
+pub fn turn<P: Program>(s: Session, bytes: &[u8], from: usize, out: &mut [u8]) -> Progress
     requires ready { Ready s }
     requires from_in_bounds { (from ≤ length bytes.now) × (longest_answer ≤ length out.old) }
-    ensures { Turned program s bytes.now from result out.new }
+    ensures { Turned P.rules s bytes.now from result out.new }
 {
     let mut text = s.text;
     let end = search::found(bytes, from, NEWLINE);
@@ -64,7 +63,7 @@ pub fn turn(program: Program, s: Session, bytes: &[u8], from: usize, out: &mut [
             rest: end,
         };
     }
-    let lines = whole_lines(program, s.bridge, &text[..len], bytes, from, out);
+    let lines = whole_lines::<P>(s.bridge, &text[..len], bytes, from, out);
     Progress {
         session: Session {
             bridge: lines.next,
@@ -77,14 +76,14 @@ pub fn turn(program: Program, s: Session, bytes: &[u8], from: usize, out: &mut [
 }
 
 // Answers what is left of a line at the end of the input; an empty rest is no line. How much of the output is filled.
-pub fn at_end(program: Program, s: Session, out: &mut [u8]) -> usize
+pub fn at_end<P: Program>(s: Session, out: &mut [u8]) -> usize
     requires ready { Ready s }
     requires longest_answer_in_bounds { longest_answer ≤ length out.old }
     ensures upper_bound { result ≤ length out.new }
-    ensures out_after { take result out.new ≡ rest_text program s.bridge (line_of s) }
+    ensures out_after { take result out.new ≡ rest_text P.rules s.bridge (line_of s) }
 {
     if s.len == 0 {
         return 0;
     }
-    turn(program, s, b"\n", 0, out).filled
+    turn::<P>(s, b"\n", 0, out).filled
 }

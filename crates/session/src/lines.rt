@@ -7,7 +7,7 @@ ghost use Rattle.session.specs.Lines.{kept_bytes, part, line_end, ended, fed_of,
 use bridge::Bridge;
 use columns::LONGEST_ANSWER;
 use hexadecimal::search;
-use session_programs::{Program, answer_line, asked, asks};
+use session_programs::Program;
 
 // What ends a line.
 pub const NEWLINE: u8 = b'\n';
@@ -43,8 +43,7 @@ fn line<'a>(held: &'a [u8], fresh: &'a [u8]) -> &'a [u8]
 }
 
 // Answers the line that ends in the bytes from `from` on, of which `first` is kept, and those after it as long as the output has room for one more answer.
-pub fn whole_lines<'a>(
-    program: Program,
+pub fn whole_lines<'a, P: Program>(
     b: Bridge,
     first: &'a [u8],
     bytes: &'a [u8],
@@ -55,7 +54,7 @@ pub fn whole_lines<'a>(
     requires ends { Ends first.now bytes.now from }
     requires longest_answer_in_bounds { longest_answer ≤ length out.old }
     ensures lawful_2 { Lawful result.next }
-    ensures rest_value { fed_of program b first.now (part bytes.now (line_end bytes.now from) result.rest) ≡ ended result.next (take result.filled out.new) }
+    ensures rest_value { fed_of P.rules b first.now (part bytes.now (line_end bytes.now from) result.rest) ≡ ended result.next (take result.filled out.new) }
     ensures within { Within (line_end bytes.now from + 1) result.rest result.filled bytes.now out.new }
 {
     let mut next = b;
@@ -65,10 +64,10 @@ pub fn whole_lines<'a>(
     let mut end = search::found(bytes, start, NEWLINE);
     while end < bytes.len() && LONGEST_ANSWER <= out.len() - n {
         let shown = line(&first[..held], &bytes[start..end]);
-        if asks(program, shown) {
-            n += asked(program, next, shown, &mut out[n..]);
+        if P::asks(shown) {
+            n += P::asked(next, shown, &mut out[n..]);
         } else {
-            let said = answer_line(program, next, shown, &mut out[n..]);
+            let said = P::answer_line(next, shown, &mut out[n..]);
             next = said.next;
             n += said.len;
         }

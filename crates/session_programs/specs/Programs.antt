@@ -1,29 +1,30 @@
 -- The programs: what each answers to a line, and its bridge before the first.
-use Rattle.std.specs.Prelude.{Bool, false, List, ℕ}
+use Rattle.std.specs.Prelude.{◌≡◌, Bool, true, false, List, ℕ, ◌<◌, length}
 use Rattle.bridge.specs.Setup.{no_bridge}
 use Rattle.bridge.specs.declared.Bridge.{Bridge}
 use Rattle.answer.specs.Answer.{Answer}
 use Rattle.capture.specs.Capture.{start_of, listed_of}
 use Rattle.latch.specs.Latch.{is_latch, latched_of}
-use Rattle.session_programs.specs.declared.Program.{Program}
-use Rattle.session_programs.specs.declared.Program.TheVariants.{Listing, Replay, Stamps}
-use Rattle.replay_grammar.specs.Line.{asks}
+use Rattle.replay_grammar.specs.Line.{longest_line, asks as replay_asks}
 use Rattle.replay_calls.specs.Answer.{answer_of}
 
--- what each answers to a line
-abbrev pub answer_by : Program → Bridge → List ℕ → Answer
-answer_by Listing b s = listed_of b s
-answer_by Replay b s = answer_of b s
-answer_by Stamps b s = latched_of b s
+-- a program: its bridge before the first line, whether a line leaves the state as it is, whatever the state, and what it answers to a line
+pub record Rules : Type 0 where
+  pub start : Bridge
+  pub asks : List ℕ → Bool
+  pub answer : Bridge → List ℕ → Answer
 
--- whether the line leaves the state as it is, whatever the state
-abbrev pub asks_by : Program → List ℕ → Bool
-asks_by Listing s = false
-asks_by Replay s = asks s
-asks_by Stamps s = is_latch s
+-- the listing has no line that asks
+abbrev pub listing : Rules
+listing = record { start = start_of; asks = λ s. false; answer = λ b s. listed_of b s }
 
--- and its bridge before the first
-abbrev pub start_by : Program → Bridge
-start_by Listing = start_of
-start_by Replay = no_bridge
-start_by Stamps = start_of
+abbrev pub replay : Rules
+replay = record { start = no_bridge; asks = λ s. replay_asks s; answer = λ b s. answer_of b s }
+
+abbrev pub stamps : Rules
+stamps = record { start = start_of; asks = λ s. is_latch s; answer = λ b s. latched_of b s }
+
+-- a line that asks leaves the state as it is, and lines longer than the longest of any program are answered alike
+pub record ProgramLaws (p : Rules) : Type 0 where
+  pub asked_stays : (b : Bridge) (s : List ℕ) → p.asks s ≡ true → (p.answer b s).next ≡ b
+  pub long_alike : (b : Bridge) (s t : List ℕ) → longest_line < length s → longest_line < length t → p.answer b s ≡ p.answer b t

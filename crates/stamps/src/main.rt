@@ -1,9 +1,9 @@
 // The stamps program: lines of a capture with latches among them; prints the grand time of each latch, and every other line as the listing does.
 #![tactic(auto)]
 
-use session_programs::Program;
+use session_programs::Stamps;
 use std::process::ExitCode;
 
 fn main(rt: HostRuntime) -> ExitCode {
-    stdio::run_here(Program::Stamps, rt)
+    stdio::run_here::<Stamps>(rt)
 }

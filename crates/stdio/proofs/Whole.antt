@@ -9,8 +9,7 @@ use Rattle.std.proofs.Common.{Option, Some, None, is_some, unwrap_or, ◌≤◌,
 use Rattle.std.specs.Prelude.{IfSome}
 use Rattle.std.specs.Io.KnownBytes.{Appends, Consumes, IsAtEnd}
 use Rattle.std.proofs.KnownBytes.{Appends-nil, Appends-trans, Consumes-nil, Consumes-trans, Consumes-whole}
-use Rattle.session_programs.specs.declared.Program.{Program}
-use Rattle.session_programs.specs.Programs.{start_by}
+use Rattle.session_programs.specs.Programs.{Rules, ProgramLaws}
 use Rattle.session.specs.declared.Session.{Session}
 use Rattle.session.specs.Lines.{fed_of}
 use Rattle.session.specs.Input.{lines_after, lines_text, rest_text}
@@ -53,7 +52,7 @@ ended_none (suc m) e = absurd (on_not_ended e)
 -- ---- what was read
 
 -- the bytes that were read, the session that they lead to, and what they print, which is what was written; after a read that ends the input there are no others
-pub record Told (p : Program) (s₀ : Session) (had held : Option (List ℕ)) (course : Course) (s : Session) (has holds : Option (List ℕ)) : Type 0 where
+pub record Told (p : Rules) (s₀ : Session) (had held : Option (List ℕ)) (course : Course) (s : Session) (has holds : Option (List ℕ)) : Type 0 where
   pub done : List ℕ
   pub read : Consumes had has done
   pub leaves : Leaves (fed_of p s₀.bridge (line_of s₀) done) s
@@ -61,7 +60,7 @@ pub record Told (p : Program) (s₀ : Session) (had held : Option (List ℕ)) (c
   pub at_end : course ≡ Ended → IsAtEnd has
 
 -- before the first read
-pub told_none : (p : Program) (s : Session) (had held : Option (List ℕ)) → Ready s → Told p s had held On s had held
+pub told_none : (p : Rules) (s : Session) (had held : Option (List ℕ)) → Ready s → Told p s had held On s had held
 unfolding fed_of
 told_none p s had held r = record {
   done = [];
@@ -82,16 +81,16 @@ ready_on None s s₁ e r q = rw e q
 ready_on (Some x) s s₁ e r q = rw e r
 
 -- one read more, what it gave being answered, or its output lost
-pub told_more : (p : Program) (s₀ : Session) (had held : Option (List ℕ)) (s : Session) (has holds : Option (List ℕ)) (got : Option ℕ) (k : ℕ) (left : Option Session) (s₁ : Session) (bytes : List ℕ) (has₁ holds₁ : Option (List ℕ))
+pub told_more : (p : Rules) → ProgramLaws p → (s₀ : Session) (had held : Option (List ℕ)) (s : Session) (has holds : Option (List ℕ)) (got : Option ℕ) (k : ℕ) (left : Option Session) (s₁ : Session) (bytes : List ℕ) (has₁ holds₁ : Option (List ℕ))
     → k ≡ unwrap_or got 0 → s₁ ≡ unwrap_or left s → Told p s₀ had held On s has holds → Gave got has has₁ bytes
     → IfSome left (λ x. Leaves (fed_of p s.bridge (line_of s) (take k bytes)) x)
     → IfSome left (λ x. Appends holds holds₁ (fed_of p s.bridge (line_of s) (take k bytes)).text)
     → going (course_after got (is_some left)) ≡ true → Told p s₀ had held (course_after got (is_some left)) s₁ has₁ holds₁
-told_more p s₀ had held s has holds got k None s₁ bytes has₁ holds₁ f n t g l w e = absurd (true≢false (sym e))
-told_more p s₀ had held s has holds None k (Some x) s₁ bytes has₁ holds₁ f n t g l w e = absurd (true≢false (sym e))
-told_more p s₀ had held s has holds (Some m) k (Some x) s₁ bytes has₁ holds₁ f n t g l w e =
+told_more p laws s₀ had held s has holds got k None s₁ bytes has₁ holds₁ f n t g l w e = absurd (true≢false (sym e))
+told_more p laws s₀ had held s has holds None k (Some x) s₁ bytes has₁ holds₁ f n t g l w e = absurd (true≢false (sym e))
+told_more p laws s₀ had held s has holds (Some m) k (Some x) s₁ bytes has₁ holds₁ f n t g l w e =
     let leaves : Leaves (fed_of p s.bridge (line_of s) (take k bytes)) s₁ = rw n l in
-    let both = two_reads p s₀.bridge (line_of s₀) t.done (take k bytes) _ _ s s₁ t.leaves refl leaves refl in record {
+    let both = two_reads p laws s₀.bridge (line_of s₀) t.done (take k bytes) _ _ s s₁ t.leaves refl leaves refl in record {
       done = t.done ++ take k bytes;
       read = Consumes-trans _ _ _ _ _ t.read (rw f g.0);
       leaves = both.0;
@@ -100,12 +99,12 @@ told_more p s₀ had held s has holds (Some m) k (Some x) s₁ bytes has₁ hold
     }
 
 -- at the end of the input, with what is left of a line: the whole of it is answered
-pub told_whole : (p : Program) (s₀ : Session) (had held : Option (List ℕ)) (s : Session) (has holds holds₁ : Option (List ℕ)) → s₀.bridge ≡ start_by p → line_of s₀ ≡ []
+pub told_whole : (p : Rules) → ProgramLaws p → (s₀ : Session) (had held : Option (List ℕ)) (s : Session) (has holds holds₁ : Option (List ℕ)) → s₀.bridge ≡ p.start → line_of s₀ ≡ []
     → Told p s₀ had held Ended s has holds → Appends holds holds₁ (rest_text p s.bridge (line_of s)) → Answered p had held holds₁
-told_whole p s₀ had held s has holds holds₁ first none t w =
+told_whole p laws s₀ had held s has holds holds₁ first none t w =
     let f = fed_of p s₀.bridge (line_of s₀) t.done in
-    let rest = (λ i. rest_text p (t.leaves.next i) (t.leaves.line i)) ∙ kept_rest p f.next f.line in
+    let rest = (λ i. rest_text p (t.leaves.next i) (t.leaves.line i)) ∙ kept_rest p laws f.next f.line in
     let text =
     ap (λ (x : List ℕ). f.text ++ x) rest ∙ fed_lines p t.done (line_of s₀) s₀.bridge ∙ (λ i. lines_text p (first i) (lines_after (none i) t.done)) in
-    Consumes-whole had has t.done (λ (xs : List ℕ). Appends held holds₁ (lines_text p (start_by p) (lines_after [] xs))) t.read (t.at_end refl)
+    Consumes-whole had has t.done (λ (xs : List ℕ). Appends held holds₁ (lines_text p p.start (lines_after [] xs))) t.read (t.at_end refl)
     (subst (λ (x : List ℕ). Appends held holds₁ x) text (Appends-trans _ _ _ _ _ t.wrote w))

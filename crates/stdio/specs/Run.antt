@@ -1,8 +1,7 @@
 -- Where a run stops, and what it has written then.
 use Rattle.std.specs.Prelude.{◌≡◌, ℕ, ◌-◌, ◌^◌, List, [], take, IfSome, Option, Some, None}
 use Rattle.std.specs.Io.KnownBytes.{Appends, Consumes, IsAtEnd}
-use Rattle.session_programs.specs.declared.Program.{Program}
-use Rattle.session_programs.specs.Programs.{start_by}
+use Rattle.session_programs.specs.Programs.{Rules}
 use Rattle.session.specs.Input.{lines_after, lines_text}
 use Rattle.stdio_course.specs.declared.Course.TheVariants.{On}
 use Rattle.stdio.specs.declared.Ending.{Ending}
@@ -21,5 +20,5 @@ Gave (Some n) had has bytes = Consumes had has (take n bytes) × (n ≡ 0 → Is
 Gave None had has bytes = Unit {0}
 
 -- a program's whole input answered, where its bytes and what the writer holds are known: what document 01 says of its lines is written, and nothing else
-abbrev pub Answered : Program → Option (List ℕ) → Option (List ℕ) → Option (List ℕ) → Type 0
-Answered p input held holds = IfSome input (λ bytes. Appends held holds (lines_text p (start_by p) (lines_after [] bytes)))
+abbrev pub Answered : Rules → Option (List ℕ) → Option (List ℕ) → Option (List ℕ) → Type 0
+Answered p input held holds = IfSome input (λ bytes. Appends held holds (lines_text p p.start (lines_after [] bytes)))

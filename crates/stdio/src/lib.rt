@@ -43,8 +43,7 @@ fn put<W: Write>(output: &mut W, bytes: &[u8]) -> bool
 }
 
 // Answers what a read gave, and writes the answers; the session that is left, or none where the output was lost, which is the last.
-fn answered<W: Write>(
-    program: Program,
+fn answered<P: Program, W: Write>(
     s: Session,
     bytes: &[u8],
     out: &mut [u8],
@@ -53,15 +52,15 @@ fn answered<W: Write>(
     requires ready { Ready s }
     requires longest_answer_in_bounds { longest_answer ≤ length out.old }
     ensures ready_2 { IfSome result (λ left. Ready left) }
-    ensures leaves { IfSome result (λ left. Leaves (fed_of program s.bridge (line_of s) bytes.now) left) }
+    ensures leaves { IfSome result (λ left. Leaves (fed_of P.rules s.bridge (line_of s) bytes.now) left) }
     ensures writes { IfSome result (λ left.
-        Appends (W.contents output.old) (W.contents output.new) (fed_of program s.bridge (line_of s) bytes.now).text) }
+        Appends (W.contents output.old) (W.contents output.new) (fed_of P.rules s.bridge (line_of s) bytes.now).text) }
 {
     let mut left = s;
     let mut from = 0;
     let mut wrote = true;
     while from < bytes.len() {
-        let turn = session::turn(program, left, bytes, from, out);
+        let turn = session::turn::<P>(left, bytes, from, out);
         wrote = put(output, &out[..turn.filled]);
         left = turn.session;
         from = stdio_course::onward(wrote, turn.rest, bytes.len());
@@ -70,8 +69,7 @@ fn answered<W: Write>(
 }
 
 // At the end of the input, answers what is left of a line and writes the answer; how the run went then.
-fn closed<W: Write>(
-    program: Program,
+fn closed<P: Program, W: Write>(
     s: Session,
     course: Course,
     out: &mut [u8],
@@ -81,11 +79,11 @@ fn closed<W: Write>(
     requires longest_answer_in_bounds { longest_answer ≤ length out.old }
     ensures went_on { (result ≡ course) ⊎ (result ≡ OutputLost) }
     ensures writes { result ≡ Ended →
-        Appends (W.contents output.old) (W.contents output.new) (rest_text program s.bridge (line_of s)) }
+        Appends (W.contents output.old) (W.contents output.new) (rest_text P.rules s.bridge (line_of s)) }
 {
     match course {
         Course::Ended => {
-            let filled = session::at_end(program, s, out);
+            let filled = session::at_end::<P>(s, out);
             let wrote = put(output, &out[..filled]);
             stdio_course::after(Some(0), wrote)
         }
@@ -107,29 +105,28 @@ fn tell<E: Write>(course: Course, errors: &mut E) -> bool {
 
 // Reads to the end of the input and answers its lines; a lost input or output stops it and is told.
 // The reads are counted by hand, since `Ending` says how many there were and `Stopped` speaks of them.
-pub fn run<R: Read, W: Write, E: Write>(
-    program: Program,
+pub fn run<P: Program, R: Read, W: Write, E: Write>(
     input: &mut R,
     output: &mut W,
     errors: &mut E,
 ) -> Ending
     ensures stopped { Stopped result }
     ensures answered { result.course ≡ Ended →
-        Answered program (R.remaining input.old) (W.contents output.old) (W.contents output.new) }
+        Answered P.rules (R.remaining input.old) (W.contents output.old) (W.contents output.new) }
 {
-    let mut s = session::start(program);
+    let mut s = session::start::<P>();
     let mut bytes = [0u8; BUFFER];
     let mut out = [0u8; BUFFER];
     let mut course = Course::On;
     let mut reads: u64 = 0;
     while reads < u64::MAX && stdio_course::reads_on(course) {
         let got = read_some(input, &mut bytes);
-        let left = answered(program, s, &bytes[..got.unwrap_or(0)], &mut out, output);
+        let left = answered::<P, W>(s, &bytes[..got.unwrap_or(0)], &mut out, output);
         course = stdio_course::after(got, left.is_some());
         s = left.unwrap_or(s);
         reads += 1;
     }
-    let end = closed(program, s, course, &mut out, output);
+    let end = closed::<P, W>(s, course, &mut out, output);
     tell(end, errors);
     Ending { course: end, reads }
 }
@@ -143,10 +140,10 @@ fn status(course: Course) -> ExitCode {
 }
 
 // Runs over standard input and output, and tells on standard error what was lost.
-pub fn run_here(program: Program, rt: HostRuntime) -> ExitCode {
+pub fn run_here<P: Program>(rt: HostRuntime) -> ExitCode {
     let mut input = rt.stdin();
     let mut output = rt.stdout();
     let mut errors = rt.stderr();
-    let ending = run(program, &mut input, &mut output, &mut errors);
+    let ending = run::<P, _, _, _>(&mut input, &mut output, &mut errors);
     status(ending.course)
 }

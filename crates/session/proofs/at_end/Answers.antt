@@ -7,10 +7,11 @@ use Rattle.session.proofs.InputLaws.{newline_ends}
 use Rattle.session.proofs.at_end.Goals as goal
 
 pub returns-clause-out_after : goal.returns-clause-out_after
-returns-clause-out_after c =
+returns-clause-out_after g c =
     let a = c.args in
+    let p = g.P.Program.rules in
     let e = c.turn.ensures in
     let whole : c.turn.result.rest ≡ 1 = omega (arith, e.within.inside, e.moves (omega arith)) in
     let left : 0 < length (line_of a.s) = rw (length-take a.s.len a.s.text) (omega (arith, c.requires.ready.short, c.requires.ready.room)) in
-    let one = ap (λ (n : ℕ). (fed_of a.program a.s.bridge (line_of a.s) (part (newline ∷ []) 0 n)).text) whole in
-    e.text ∙ one ∙ newline_ends a.program a.s.bridge (line_of a.s) left
+    let one = ap (λ (n : ℕ). (fed_of p a.s.bridge (line_of a.s) (part (newline ∷ []) 0 n)).text) whole in
+    e.text ∙ one ∙ newline_ends p a.s.bridge (line_of a.s) left

@@ -10,7 +10,7 @@ use Rattle.stdio.proofs.run.Goals as goal
 
 pub loop-reads-init : goal.loop-reads-init
 loop-reads-init g c =
-    (c.start-s.ensures.ready, refl, refl, omega arith, λ _. told_none c.args.program c.start-s.result _ _ c.start-s.ensures.ready)
+    (c.start-s.ensures.ready, refl, refl, omega arith, λ _. told_none g.P.Program.rules c.start-s.result _ _ c.start-s.ensures.ready)
 
 pub slice_bounds-answered-end : goal.slice_bounds-answered-end
 slice_bounds-answered-end g c =
@@ -19,7 +19,7 @@ slice_bounds-answered-end g c =
 pub loop-reads-preserved : goal.loop-reads-preserved
 loop-reads-preserved g c =
     let l = c.loop-reads in
-    let p = c.args.program in
+    let p = g.P.Program.rules in
     let s₀ = c.start-s.result in
     let had = g.R.Read.remaining c.args.input.now in
     let held = g.W.Write.contents c.args.output.now in
@@ -34,7 +34,7 @@ loop-reads-preserved g c =
     let on = on_of l.course (sym c.reads_on.ensures ∙ c.if-reads_on.true) in
     let told = subst (λ (x : Course). going x ≡ true → Told p s₀ had held x l.s has holds) on l.invariant.4 refl in
     let after = c.after-course.ensures ∙ ap (course_after got) c.is_some.ensures in
-    let more = told_more p s₀ had held l.s has holds got c.unwrap_or.result left s₁ c.read_some-got.new.bytes has₁ holds₁ c.unwrap_or.ensures c.unwrap_or-s.ensures told c.read_some-got.ensures.gave said.leaves said.writes in (
+    let more = told_more p g.met.P.Program.laws s₀ had held l.s has holds got c.unwrap_or.result left s₁ c.read_some-got.new.bytes has₁ holds₁ c.unwrap_or.ensures c.unwrap_or-s.ensures told c.read_some-got.ensures.gave said.leaves said.writes in (
       ready_on left l.s s₁ c.unwrap_or-s.ensures said.ready_2 l.invariant.0,
       c.read_some-got.auto.bytes ∙ l.invariant.1,
       c.answered-left.auto.out ∙ l.invariant.2,
@@ -45,7 +45,7 @@ loop-reads-preserved g c =
 pub returns-clause-answered : goal.returns-clause-answered
 returns-clause-answered g c = λ e.
     let l = c.loop-reads in
-    let p = c.args.program in
+    let p = g.P.Program.rules in
     let s₀ = c.start-s.result in
     let had = g.R.Read.remaining c.args.input.now in
     let held = g.W.Write.contents c.args.output.now in
@@ -53,4 +53,4 @@ returns-clause-answered g c = λ e.
     let holds = g.W.Write.contents l.output in
     let ended = was_ended c.closed-end.result l.course c.closed-end.ensures.went_on e in
     let told = subst (λ (x : Course). going x ≡ true → Told p s₀ had held x l.s has holds) ended l.invariant.4 refl in
-    told_whole p s₀ had held l.s has holds _ c.start-s.ensures.bridge_value c.start-s.ensures.result_value told (c.closed-end.ensures.writes e)
+    told_whole p g.met.P.Program.laws s₀ had held l.s has holds _ c.start-s.ensures.bridge_value c.start-s.ensures.result_value told (c.closed-end.ensures.writes e)

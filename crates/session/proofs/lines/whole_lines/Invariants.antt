@@ -6,10 +6,10 @@ use Rattle.session.proofs.LineLaws.{Stands, Goes}
 use Rattle.session.proofs.lines.whole_lines.Given as goal
 
 abbrev pub invariant-loop-end : goal.invariant-loop-end
-invariant-loop-end l = record {
+invariant-loop-end g l = record {
   lawful : Lawful l.next;
   stands : Stands l.first l.bytes l.from l.held l.n l.start;
-  goes : Goes l.program l.initial.next l.first l.bytes l.from l.held l.start l.next (take l.n l.out);
+  goes : Goes g.P.Program.rules l.initial.next l.first l.bytes l.from l.held l.start l.next (take l.n l.out);
   ends : l.end ≡ line_end l.bytes l.start;
   start_most : l.start ≤ length l.bytes;
   held_most : l.held ≤ length l.first;
@@ -20,4 +20,4 @@ invariant-loop-end l = record {
 }
 
 abbrev pub decreases-loop-end : goal.decreases-loop-end
-decreases-loop-end l = length l.bytes - l.end
+decreases-loop-end g l = length l.bytes - l.end
