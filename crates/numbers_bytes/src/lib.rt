@@ -27,7 +27,7 @@ pub fn number_at(s: &[u8], at: usize, n: usize) -> u64
 }
 
 // Fills out with the low bytes of v.
-// tried: `out.iter_mut().rev()`. Its loop knows no index, only borrows, and the invariant, which speaks of the bytes of `out` from an index on, does not close.
+// By the index: the invariant speaks of the bytes of `out` from an index on, and a loop over `out.iter_mut().rev()` holds borrows and no index.
 // `as` takes off no bit after `% 256`, where a `try_from` would answer a Result that can't fail.
 pub fn put(out: &mut [u8], v: u64)
     ensures { out.new ≡ number_bytes (length out.old) v }
