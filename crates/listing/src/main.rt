@@ -4,6 +4,7 @@
 use session_programs::Listing;
 use std::process::ExitCode;
 
+// Lists a capture from standard input.
 fn main(rt: HostRuntime) -> ExitCode {
     stdio::run_here::<Listing>(rt)
 }

@@ -4,6 +4,7 @@
 use choice_passes::table;
 use std::io;
 
+// Says that the table agrees, which is proved of it.
 fn main(rt: HostRuntime) -> io::Result<()> {
     let holds = choice_passes::agrees(&table::PASSES);
     prove!(holds);

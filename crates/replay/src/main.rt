@@ -4,6 +4,7 @@
 use session_programs::Replay;
 use std::process::ExitCode;
 
+// Answers lines of replay from standard input.
 fn main(rt: HostRuntime) -> ExitCode {
     stdio::run_here::<Replay>(rt)
 }

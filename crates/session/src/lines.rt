@@ -16,6 +16,7 @@ pub const NEWLINE: u8 = b'\n';
 const KEPT: usize = replay_grammar::LONGEST_LINE + 1;
 
 // The state after whole lines, how much of the output is filled then, and where the bytes go on.
+// Not one with `Progress`: a turn leaves a session, whole lines a state, and `Turned` and `Within` name the parts of each.
 #[derive(Clone, Copy)]
 pub struct Lines {
     pub next: Bridge,
@@ -62,6 +63,7 @@ pub fn whole_lines<'a, P: Program>(
     let mut held = first.len();
     let mut start = from;
     let mut end = search::found(bytes, start, NEWLINE);
+    // No `for`: the loop goes on by where a search finds the next line's end, and stops where the output has no room for one more answer.
     while end < bytes.len() && LONGEST_ANSWER <= out.len() - n {
         let shown = line(&first[..held], &bytes[start..end]);
         if P::asks(shown) {
@@ -76,7 +78,7 @@ pub fn whole_lines<'a, P: Program>(
         end = search::found(bytes, start, NEWLINE);
     }
     Lines {
-        next: next,
+        next,
         filled: n,
         rest: start,
     }

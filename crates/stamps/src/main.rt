@@ -4,6 +4,7 @@
 use session_programs::Stamps;
 use std::process::ExitCode;
 
+// Answers a capture with latches from standard input.
 fn main(rt: HostRuntime) -> ExitCode {
     stdio::run_here::<Stamps>(rt)
 }

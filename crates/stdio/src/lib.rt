@@ -43,6 +43,7 @@ fn put<W: Write>(output: &mut W, bytes: &[u8]) -> bool
 }
 
 // Answers what a read gave, and writes the answers; the session that is left, or none where the output was lost, which is the last.
+// That a write was lost is kept beside the session and ends the loop by `onward`: where the bytes go on then is a rule with a definition and edits of its own (`onward_after`).
 fn answered<P: Program, W: Write>(
     s: Session,
     bytes: &[u8],

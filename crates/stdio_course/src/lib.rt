@@ -13,7 +13,7 @@ pub enum Course {
     OutputLost,
 }
 
-// How a run goes on after a read that gave so many bytes, or failed, all its answers being written or not.
+// How a run goes on after a read that gave so many bytes, or failed, all its answers being written or not: `course_after` is of these two, and an output that is lost tells nothing more.
 pub fn after(got: Option<usize>, wrote: bool) -> Course
     ensures { result ≡ course_after got wrote }
 {
