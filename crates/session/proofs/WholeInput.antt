@@ -63,7 +63,7 @@ pub pieces_as_one : (p : Rules) → ProgramLaws p → (s : Session) (pieces : Li
 unfolding fed_of
 pieces_as_one p laws s pieces ready r = more_pieces p laws s.bridge (line_of s) [] [] s pieces (ready_leaves p s ready) refl r
 
--- a whole input, in any pieces, and its end
+-- a whole input, in any pieces, and its end: of each program that keeps the laws, as the three do by session_programs/specs/Laws.antt
 pub whole_input : (p : Rules) → ProgramLaws p → (s : Session) (pieces : List Piece) → Ready s → s.bridge ≡ p.start → line_of s ≡ [] → ReadAll p s pieces →
     let r = session_after s pieces in
     printed_of pieces ++ rest_text p r.bridge (line_of r) ≡ lines_text p p.start (lines_after [] (input_of pieces))

@@ -1,4 +1,4 @@
--- The laws of the three programs: a line that is too long is answered as bad by each.
+-- The three programs keep the laws.
 use Rattle.std.specs.Prelude.{◌≡◌, List, ℕ, ◌<◌, length}
 use Rattle.std.proofs.Common.{sym, ◌∙◌, arith, true≢false}
 use Rattle.refusals.specs.Refusals.{bad_line as badNumber}
@@ -11,6 +11,7 @@ use Rattle.replay_grammar.specs.Line.{longest_line}
 use Rattle.replay_calls.proofs.AnswerLaws.{asks_stays, answer_long}
 use Rattle.session_programs.specs.Programs.{ProgramLaws, listing, replay, stamps}
 
+-- a line that is too long is answered as bad by each
 module _ (b : Bridge) (s : List ℕ) (h : longest_line < length s) where
   long_listed : listed_as b badNumber ≡ listing.answer b s
   long_listed = listed_long b s (omega (arith, h))
@@ -29,12 +30,12 @@ listing_laws = record {
 
 pub replay_laws : ProgramLaws replay
 replay_laws = record {
-  asked_stays = λ b s e. asks_stays b s e;
+  asked_stays = asks_stays;
   long_alike = λ b s t h k. sym (long_replayed b s h) ∙ long_replayed b t k;
 }
 
 pub stamps_laws : ProgramLaws stamps
 stamps_laws = record {
-  asked_stays = λ b s e. latch_stays b s e;
+  asked_stays = latch_stays;
   long_alike = λ b s t h k. sym (long_stamped b s h) ∙ long_stamped b t k;
 }

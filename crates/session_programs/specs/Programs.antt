@@ -16,13 +16,13 @@ pub record Rules : Type 0 where
 
 -- the listing has no line that asks
 abbrev pub listing : Rules
-listing = record { start = start_of; asks = λ s. false; answer = λ b s. listed_of b s }
+listing = record { start = start_of; asks = λ s. false; answer = listed_of }
 
 abbrev pub replay : Rules
-replay = record { start = no_bridge; asks = λ s. replay_asks s; answer = λ b s. answer_of b s }
+replay = record { start = no_bridge; asks = replay_asks; answer = answer_of }
 
 abbrev pub stamps : Rules
-stamps = record { start = start_of; asks = λ s. is_latch s; answer = λ b s. latched_of b s }
+stamps = record { start = start_of; asks = is_latch; answer = latched_of }
 
 -- a line that asks leaves the state as it is, and lines longer than the longest of any program are answered alike
 pub record ProgramLaws (p : Rules) : Type 0 where

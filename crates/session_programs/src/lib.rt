@@ -13,6 +13,7 @@ use bridge::Bridge;
 
 // A program, by the lines that it answers. `main` names one, so that where a line is answered the other programs' lines are left out.
 pub trait Program {
+    // What the lines lead to and print, by document 01.
     ghost rules: { Rules };
 
     // The bridge before the first line.
