@@ -66,7 +66,7 @@ pub own_answers : (b : Bridge) (count seconds fraction at : ℕ) → OwnAnswers 
 unfolding own_clock_of
 own_answers b count seconds fraction at =
     granted_when (OwnAnswers b count at) (own_clock_refusal b.setup.capable seconds fraction at)
-    (λ _. own_reading_is count _ (record { 0 = at }) b.clock (λ (d : Outcome OwnClock). OwnAnswers b count at (stores_clock b d)) (inr (inr (refl, refl))) (λ _ _. inl refl))
+    (λ _. own_reading_is count _ (record { 0 = at }) b.clock (λ (d : Outcome OwnClock). OwnAnswers b count at (stores_clock b d)) (inr (inr (refl, refl))) (λ _ _ _. inl refl))
     (λ _ _. own_is (λ (r : Result ⊤ Refusal). OwnAnswers b count at (answers r b)) b.setup.capable seconds fraction at (inr (inl (inl refl, refl))) (inr (inl (inr refl, refl))) (inl refl))
 
 pub receive_answers : (b : Bridge) (port : ℕ) (frame : List ℕ) (arrival : ℕ) → ReceiveAnswers b port frame arrival (receive_of b port frame arrival)
@@ -81,7 +81,7 @@ receive_answers b port frame arrival =
     by (Ok f) q =
         received_is (setting_at b (port - 1)) _ f (record { 0 = arrival }) (port_at b.ports (port - 1)) (λ (d : Outcome Port). ReceiveAnswers b port frame arrival (stores_port b (port - 1) d))
         (λ k l g. inr (inr ((l, g), (f, q, refl))))
-        (λ _ _ _ _. inl refl)
+        (λ _ _ _ _ _. inl refl)
 
 pub send_answers : (b : Bridge) (port t : ℕ) (out : List ℕ) → SendAnswers b port out (send_of b port t (length out)) (send_bytes b port t out)
 unfolding send_of send_bytes sending_at

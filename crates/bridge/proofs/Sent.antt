@@ -186,4 +186,4 @@ module _ (b : Bridge) (port t : ℕ) (out : List ℕ) (lawful : Lawful b) (sent 
       let Answer : Done ⊤ → Type 0 = λ (d : Done ⊤). (answer_number d.answer ≡ 0) ⊎ From 7 9 (answer_number d.answer) in
       let w = wrote b port t out sent in
       subst Answer (sym (sent_frame_received there at arrival w.fields w.sending clear))
-      (received_is _ _ _ _ _ (λ (d : Outcome Port). Answer (stores_port there (at - 1) d)) (λ k l g. inr (l, g)) (λ _ _ _ _. inl refl))
+      (received_is _ _ _ _ _ (λ (d : Outcome Port). Answer (stores_port there (at - 1) d)) (λ k l g. inr (l, g)) (λ _ _ _ _ _. inl refl))

@@ -28,6 +28,7 @@ use Rattle.frame.specs.declared.Fields.{Fields}
 use Rattle.port.specs.Record.{used_port}
 use Rattle.port.specs.Receive.{noted_port}
 use Rattle.port.specs.Send.{frame_of, stretch_of, listener_hop_of, no_grand_time, no_error_time}
+use Rattle.port.specs.declared.Preceding.TheVariants.{Was}
 use Rattle.bridge.specs.Table.{port_at, loses_link, samples_at, candidates_of}
 use Rattle.bridge.specs.Arguments.{send_refusal, mask_beyond}
 use Rattle.bridge.specs.State.{version_at, with_port, with_clock, answers, by_refusal}
@@ -72,7 +73,7 @@ OwnAnswers b count at d =
     let k = answer_number d.answer in
     (k ≡ 0)
     ⊎ ((((k ≡ 2) ⊎ (k ≡ 10)) × (d.next ≡ b))
-    ⊎ ((k ≡ 8) × (d.next ≡ with_clock b (record { preceding = Some (record { count = count; arrival = record { 0 = at } }); samples = b.clock.samples }))))
+    ⊎ ((k ≡ 8) × (d.next ≡ with_clock b (record { preceding = Was count (record { 0 = at }); samples = b.clock.samples }))))
 
 -- receive, 2 to 6: nothing; 7 to 9: the frame was read, and its frameCount and arrival are stored, as the next p and not as heard-at
 abbrev pub ReceiveAnswers : Bridge → ℕ → List ℕ → ℕ → Done ⊤ → Type 0

@@ -94,3 +94,10 @@ by_refusal (Err refusal) goes_on stops = stops
 -- a refusal found before any record is looked at stores nothing; where there is none, the call goes on
 abbrev pub refused_or : Bridge → Result ⊤ Refusal → Done ⊤ → Done ⊤
 refused_or b answer d = by_refusal answer d (answers answer b)
+
+-- how many bytes a state takes, and an answer with the next one: room that a task has in its frame for a call
+abbrev pub state_bytes : ℕ
+state_bytes = 2184
+
+abbrev pub done_bytes : ℕ
+done_bytes = 2192

@@ -3,10 +3,12 @@
 
 ghost use Rattle.std.specs.Prelude.{◌≡◌};
 ghost use Rattle.bridge.specs.Setup.{default_timeout, default_back};
+ghost use Rattle.bridge.specs.State.{state_bytes, done_bytes};
 
 use choice::{Precedence, Rank};
 use port::{OwnClock, Port, Sender, Setting};
 use refusals::Refusal;
+use std::mem;
 
 // How many records there are.
 pub const PORTS: usize = 8;
@@ -50,6 +52,20 @@ pub struct Bridge {
 pub struct Done<A> {
     pub next: Bridge,
     pub answer: Result<A, Refusal>,
+}
+
+// How many bytes a state takes: a task that makes a call has room for it.
+pub fn state_bytes() -> usize
+    ensures { result ≡ state_bytes }
+{
+    mem::size_of::<Bridge>()
+}
+
+// How many bytes an answer takes with the next state: a task has room for that too.
+pub fn done_bytes() -> usize
+    ensures { result ≡ done_bytes }
+{
+    mem::size_of::<Done<()>>()
 }
 
 // The default timeout.

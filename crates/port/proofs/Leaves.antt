@@ -22,7 +22,7 @@ pub received_noted : (setting : Setting) (chosen : ℕ) (f : Fields) (at : Local
 received_noted setting chosen f at port =
     received_is setting chosen f at port (λ (d : Outcome Port). (answer_number d.answer ≡ 0 → ⊥) → Noted f.count at port d.after)
     (λ _ _ _ _. record { preceding = refl; announcement = refl; samples = refl; pair = refl; echo = refl; next = refl })
-    (λ _ _ _ _ refused. absurd (refused refl))
+    (λ _ _ _ _ _ refused. absurd (refused refl))
 
 -- a reading of the own clock that is not taken is noted
 pub own_reading_noted : (count : ℕ) (grand : GrandTime) (now : LocalTime) (clock : OwnClock)
@@ -30,7 +30,7 @@ pub own_reading_noted : (count : ℕ) (grand : GrandTime) (now : LocalTime) (clo
 own_reading_noted count grand now clock =
     own_reading_is count grand now clock (λ (d : Outcome OwnClock). (answer_number d.answer ≡ 0 → ⊥) → NotedClock count now clock d.after)
     (λ _. record { preceding = refl; samples = refl })
-    (λ _ _ refused. absurd (refused refl))
+    (λ _ _ _ refused. absurd (refused refl))
 
 -- a send uses the next frameCount up
 pub sent_used : (port : Port) → Used port (used_port port)

@@ -42,7 +42,7 @@ pub received_still : (setting : Setting) (chosen : ℕ) (f : Fields) (at : Local
     → Still 0 (received_of setting chosen f at port).after.samples
 received_still setting chosen f at port zero still =
     received_is setting chosen f at port (λ (d : Outcome Port). Still 0 d.after.samples) (λ _ _ _. still)
-    (λ _ _ _ _. still_kept 0 port.samples _ _ still (ap units zero))
+    (λ _ _ _ _ _. still_kept 0 port.samples _ _ still (ap units zero))
 
 -- Age takes no sample in
 pub aged_still : (at : LocalTime) (timeout : ℕ) (port : Port) → Still 0 port.samples → Still 0 (aged_port at timeout port).samples

@@ -40,6 +40,7 @@ use Rattle.port.specs.declared.Profile.{Profile}
 use Rattle.port.specs.declared.Profile.TheVariants.{Full, Listener}
 use Rattle.port.specs.declared.Sender.{Sender}
 use Rattle.port.specs.declared.Preceding.{Preceding}
+use Rattle.port.specs.declared.Preceding.TheVariants.{Never, Was}
 use Rattle.port.specs.declared.Port.{Port}
 use Rattle.port.specs.declared.OwnClock.{OwnClock}
 use Rattle.port.specs.declared.Outcome.{Outcome}
@@ -93,13 +94,13 @@ frame_order setting chosen f at port = first_if number (same_tells f.hop 255) (�
     number : Result Port Refusal → ℕ
     number r = answer_number (received_as r f.count at port).answer
 
-    counted : (l : Option Preceding) → First (number (counted_by l setting chosen f at port))
+    counted : (l : Preceding) → First (number (counted_by l setting chosen f at port))
         (given 8 (NotNext l f.count) ∷ given 9 (DelayTooLong l setting.delay port.pair f.local f.tx f.rx) ∷ [])
-    counted None = here _ _ tt refl
-    counted (Some last) =
-        first_else number (same_fails f.count ((last.count + 1) % 256))
-        (λ _. same_number (delayed_number (link_delay_of setting.delay (neighbour_rate_of port.pair f.local last.arrival) f.local last.arrival f.tx f.rx) chosen f last.arrival at port)
-        (delay_order setting.delay (neighbour_rate_of port.pair f.local last.arrival) f.local last.arrival f.tx f.rx))
+    counted Never = here _ _ tt refl
+    counted (Was last p) =
+        first_else number (same_fails f.count ((last + 1) % 256))
+        (λ _. same_number (delayed_number (link_delay_of setting.delay (neighbour_rate_of port.pair f.local p) f.local p f.tx f.rx) chosen f p at port)
+        (delay_order setting.delay (neighbour_rate_of port.pair f.local p) f.local p f.tx f.rx))
 
 -- ---- a reading of the own clock
 
@@ -109,9 +110,9 @@ pub reading_order : (count : ℕ) (grand : GrandTime) (now : LocalTime) (clock :
 unfolding own_reading_of
 reading_order count grand now clock = by clock.preceding
   where
-    by : (l : Option Preceding) → First (answer_number (own_reading_by l count grand now clock.samples).answer) (reading_conditions l count)
-    by None = here _ _ tt refl
-    by (Some last) = first_else (λ (d : Outcome OwnClock). answer_number d.answer) (same_fails count ((last.count + 1) % 256)) (λ _. nowhere refl)
+    by : (l : Preceding) → First (answer_number (own_reading_by l count grand now clock.samples).answer) (reading_conditions l count)
+    by Never = here _ _ tt refl
+    by (Was last when) = first_else (λ (d : Outcome OwnClock). answer_number d.answer) (same_fails count ((last + 1) % 256)) (λ _. nowhere refl)
 
 -- ---- a departure
 

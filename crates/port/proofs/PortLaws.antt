@@ -48,6 +48,7 @@ use Rattle.port.specs.declared.Profile.{Profile}
 use Rattle.port.specs.declared.Profile.TheVariants.{Full, Listener}
 use Rattle.port.specs.declared.Sender.{Sender}
 use Rattle.port.specs.declared.Preceding.{Preceding}
+use Rattle.port.specs.declared.Preceding.TheVariants.{Never, Was}
 use Rattle.port.specs.declared.Port.{Port}
 use Rattle.port.specs.declared.OwnClock.{OwnClock}
 use Rattle.port.specs.declared.Outcome.{Outcome}
@@ -110,8 +111,8 @@ delay_is P Measured rate local p tx rx done long =
 module _ (setting : Setting) (chosen : ℕ) (f : Fields) (at : LocalTime) (port : Port) where
   pub received_is : (P : Outcome Port → Type 0)
       → ((refusal : Refusal) → 7 ≤ number_of refusal → number_of refusal ≤ 9 → P (refused_by refusal f.count at port))
-      → ((held : Preceding) (delay : ℕ) → (f.hop ≡ last_hop → ⊥) → port.preceding ≡ Some held
-      → P (record { answer = granted; after = taken_port f (hop_of f.hop chosen) held.arrival delay at port }))
+      → ((count : ℕ) (p : LocalTime) (delay : ℕ) → (f.hop ≡ last_hop → ⊥) → port.preceding ≡ Was count p
+      → P (record { answer = granted; after = taken_port f (hop_of f.hop chosen) p delay at port }))
       → P (received_of setting chosen f at port)
   unfolding received_of followed_by_of
   received_is P refuse take =
@@ -120,12 +121,12 @@ module _ (setting : Setting) (chosen : ℕ) (f : Fields) (at : LocalTime) (port 
       Stored : Result Port Refusal → Type 0
       Stored r = P (received_as r f.count at port)
 
-      counted : (f.hop ≡ last_hop → ⊥) → (preceding : Option Preceding) → port.preceding ≡ preceding → Stored (counted_by preceding setting chosen f at port)
-      counted n None e = refuse NotNext (omega arith) (omega arith)
-      counted n (Some held) e =
-          if_when Stored (eqb f.count (next_count held.count))
-          (λ _. delay_is (λ (d : Result ℕ Refusal). Stored (delayed_by d chosen f held.arrival at port)) setting.delay
-          (neighbour_rate_of port.pair f.local held.arrival) f.local held.arrival f.tx f.rx (λ delay. take held delay n e) (refuse DelayTooLong (omega arith) (omega arith)))
+      counted : (f.hop ≡ last_hop → ⊥) → (preceding : Preceding) → port.preceding ≡ preceding → Stored (counted_by preceding setting chosen f at port)
+      counted n Never e = refuse NotNext (omega arith) (omega arith)
+      counted n (Was count p) e =
+          if_when Stored (eqb f.count (next_count count))
+          (λ _. delay_is (λ (d : Result ℕ Refusal). Stored (delayed_by d chosen f p at port)) setting.delay
+          (neighbour_rate_of port.pair f.local p) f.local p f.tx f.rx (λ delay. take count p delay n e) (refuse DelayTooLong (omega arith) (omega arith)))
           (λ _. refuse NotNext (omega arith) (omega arith))
 
 -- a record that took a frame announces the frame's clock at the held hop; and no frame with the last hop is taken
@@ -137,25 +138,25 @@ received_announces setting chosen f at port =
     (λ (d : Outcome Port). answer_number d.answer ≡ 0
     → (d.after.announcement ≡ Some (record { precedence = f.precedence; hop = hop_of f.hop chosen; heard_at = at })) × (f.hop ≡ last_hop → ⊥))
     (λ refusal l _ e. absurd (omega arith))
-    (λ _ _ below _ _. (refl, below))
+    (λ _ _ _ below _ _. (refl, below))
 
 -- the next frameCount of a port stays, whatever it hears and however it ages
 pub received_count : (setting : Setting) (chosen : ℕ) (f : Fields) (at : LocalTime) (port : Port) → (received_of setting chosen f at port).after.count ≡ port.count
-received_count setting chosen f at port = received_is setting chosen f at port (λ (d : Outcome Port). d.after.count ≡ port.count) (λ _ _ _. refl) (λ _ _ _ _. refl)
+received_count setting chosen f at port = received_is setting chosen f at port (λ (d : Outcome Port). d.after.count ≡ port.count) (λ _ _ _. refl) (λ _ _ _ _ _. refl)
 
 pub aged_count : (at : LocalTime) (timeout : ℕ) (port : Port) → (aged_port at timeout port).count ≡ port.count
 aged_count at timeout port = aged_is at timeout port (λ (r : Port). r.count ≡ port.count) refl refl
 
 -- what holds of a refusal with 8, and of a reading that is taken, holds of the reading
 pub own_reading_is : (count : ℕ) (grand : GrandTime) (at : LocalTime) (clock : OwnClock) (P : Outcome OwnClock → Type 0) → P (stored_as (Err NotNext) clock.samples count at)
-    → ((held : Preceding) → clock.preceding ≡ Some held → P (stored_as granted (kept_of clock.samples true (own_sample grand held.arrival)) count at))
+    → ((held : ℕ) (when : LocalTime) → clock.preceding ≡ Was held when → P (stored_as granted (kept_of clock.samples true (own_sample grand when)) count at))
     → P (own_reading_of count grand at clock)
 unfolding own_reading_of
 own_reading_is count grand at clock P refuse take = go clock.preceding refl
   where
-    go : (preceding : Option Preceding) → clock.preceding ≡ preceding → P (own_reading_by preceding count grand at clock.samples)
-    go None e = refuse
-    go (Some held) e = if_when P (eqb count (next_count held.count)) (λ _. take held e) (λ _. refuse)
+    go : (preceding : Preceding) → clock.preceding ≡ preceding → P (own_reading_by preceding count grand at clock.samples)
+    go Never e = refuse
+    go (Was held when) e = if_when P (eqb count (next_count held)) (λ _. take held when e) (λ _. refuse)
 
 -- ---- sending
 
@@ -389,14 +390,14 @@ pub received_lawful : (setting : Setting) (chosen : ℕ) (f : Fields) (at : Loca
 received_lawful setting chosen f at port h r l =
     received_is setting chosen f at port (λ (d : Outcome Port). LawfulPort d.after)
     (λ _ _ _. record { preceding = (r.typed.count, h); announcement = l.announcement; samples = l.samples; pair = l.pair; echo = l.echo; count = l.count })
-    (λ held delay other e.
-    let arrived : LawfulPreceding (Some held) = subst LawfulPreceding e l.preceding in
+    (λ count p delay other e.
+    let arrived : LawfulPreceding (Was count p) = subst LawfulPreceding e l.preceding in
     record {
       preceding = (r.typed.count, h);
       announcement = (fields_precedence f r.typed, omega (arith, hop_within f.hop chosen (omega (arith, r.typed.hop, other))), h);
       samples =
-          kept_lawful port.samples (same_clock port.announcement f.precedence) (sample_of f held.arrival delay) l.samples
-          (record { grand = r.grand; local = since_lt held.arrival (record { 0 = delay }); error = r.typed.error });
+          kept_lawful port.samples (same_clock port.announcement f.precedence) (sample_of f p delay) l.samples
+          (record { grand = r.grand; local = since_lt p (record { 0 = delay }); error = r.typed.error });
       pair = (r.local, arrived.1);
       echo = (r.local, arrived.1);
       count = l.count;
@@ -407,11 +408,11 @@ pub own_reading_lawful : (count : ℕ) (grand : GrandTime) (at : LocalTime) (clo
 own_reading_lawful count grand at clock k h r l =
     own_reading_is count grand at clock (λ (d : Outcome OwnClock). LawfulClock d.after)
     (record { preceding = (k, h); samples = l.samples })
-    (λ held e.
-    let read : LawfulPreceding (Some held) = subst LawfulPreceding e l.preceding in
+    (λ held when e.
+    let read : LawfulPreceding (Was held when) = subst LawfulPreceding e l.preceding in
     record {
       preceding = (k, h);
-      samples = kept_lawful clock.samples true (own_sample grand held.arrival) l.samples (record { grand = r; local = read.1; error = lit< tt });
+      samples = kept_lawful clock.samples true (own_sample grand when) l.samples (record { grand = r; local = read.1; error = lit< tt });
     })
 
 -- whatever a send is answered with, the port's next frameCount is used up

@@ -11,13 +11,14 @@ use Rattle.frame.specs.Demands.{Typed}
 use Rattle.frame.specs.declared.Mac.{Mac}
 use Rattle.frame.specs.declared.Fields.{Fields}
 use Rattle.port.specs.declared.Preceding.{Preceding}
+use Rattle.port.specs.declared.Preceding.TheVariants.{Never, Was}
 use Rattle.port.specs.declared.Port.{Port}
 use Rattle.port.specs.declared.OwnClock.{OwnClock}
 
 -- the frameCount and the arrival of the preceding frame: one of 256 counts, and a local time
-abbrev pub LawfulPreceding : Option Preceding → Type 0
-LawfulPreceding None = Unit {0}
-LawfulPreceding (Some held) = (held.count < counts) × (held.arrival.0 < circle)
+abbrev pub LawfulPreceding : Preceding → Type 0
+LawfulPreceding Never = Unit {0}
+LawfulPreceding (Was count arrival) = (count < counts) × (arrival.0 < circle)
 
 -- an announcement: a precedence whose parts have their bits, a held hop up to the last, and heard-at, a local time
 abbrev pub LawfulAnnouncement : Option Announcement → Type 0

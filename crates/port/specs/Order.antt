@@ -17,13 +17,14 @@ use Rattle.choice.specs.declared.Candidate.{Candidate}
 use Rattle.port.specs.declared.Profile.{Profile}
 use Rattle.port.specs.declared.Profile.TheVariants.{Full, Listener}
 use Rattle.port.specs.declared.Preceding.{Preceding}
+use Rattle.port.specs.declared.Preceding.TheVariants.{Never, Was}
 
 -- ---- Receive and Own clock
 
 -- frameCount is not the last one plus 1, or none was heard
-abbrev pub NotNext : Option Preceding → ℕ → Type 0
-NotNext None count = Unit {0}
-NotNext (Some last) count = count ≢ (last.count + 1) % 256
+abbrev pub NotNext : Preceding → ℕ → Type 0
+NotNext Never count = Unit {0}
+NotNext (Was last p) count = count ≢ (last + 1) % 256
 
 -- round trip or turn above 2^39, or delay above 2^30
 abbrev pub TooLong : ℤ → ℕ → ℕ → Type 0
@@ -35,12 +36,12 @@ MeasuredTooLong (Fixed delay) rate local p tx rx = ⊥
 MeasuredTooLong Measured rate local p tx rx = (((tx.0 ≡ 0) × (rx.0 ≡ 0)) → ⊥) × TooLong rate (since_of p tx) (since_of local rx)
 
 -- the same of a frame by the one before it, which came in at p, and by the stored pair
-abbrev pub DelayTooLong : Option Preceding → DelaySetting → Option Pair → LocalTime → LocalTime → LocalTime → Type 0
-DelayTooLong None delay pair local tx rx = ⊥
-DelayTooLong (Some last) delay pair local tx rx = MeasuredTooLong delay (neighbour_rate_of pair local last.arrival) local last.arrival tx rx
+abbrev pub DelayTooLong : Preceding → DelaySetting → Option Pair → LocalTime → LocalTime → LocalTime → Type 0
+DelayTooLong Never delay pair local tx rx = ⊥
+DelayTooLong (Was last p) delay pair local tx rx = MeasuredTooLong delay (neighbour_rate_of pair local p) local p tx rx
 
 -- a frame that was read, by its hopCount, frameCount, localTime and that-fields, on a port with this setting, preceding frame and pair
-abbrev pub frame_conditions : DelaySetting → Option Preceding → Option Pair → ℕ → ℕ → LocalTime → LocalTime → LocalTime → List Condition
+abbrev pub frame_conditions : DelaySetting → Preceding → Option Pair → ℕ → ℕ → LocalTime → LocalTime → LocalTime → List Condition
 frame_conditions delay preceding pair hop count local tx rx =
     given 7 (hop ≡ 255)
     ∷ given 8 (NotNext preceding count)
@@ -48,7 +49,7 @@ frame_conditions delay preceding pair hop count local tx rx =
     ∷ []
 
 -- a reading of the own clock
-abbrev pub reading_conditions : Option Preceding → ℕ → List Condition
+abbrev pub reading_conditions : Preceding → ℕ → List Condition
 reading_conditions preceding count = given 8 (NotNext preceding count) ∷ []
 
 -- ---- Send

@@ -16,6 +16,7 @@ use Rattle.choice.specs.declared.Announcement.{Announcement}
 use Rattle.frame.specs.declared.Fields.{Fields}
 use Rattle.port.specs.declared.Setting.{Setting}
 use Rattle.port.specs.declared.Preceding.{Preceding}
+use Rattle.port.specs.declared.Preceding.TheVariants.{Never, Was}
 use Rattle.port.specs.declared.Port.{Port}
 use Rattle.port.specs.declared.Outcome.{Outcome}
 
@@ -26,7 +27,7 @@ same_clock (Some held) precedence = eqb (precedence_of held.precedence) (precede
 
 -- a refused frame: frameCount and arrival are stored as the next p, and nothing else
 abbrev pub noted_port : ℕ → LocalTime → Port → Port
-noted_port count at port = record port { preceding = Some (record { count = count; arrival = at }) }
+noted_port count at port = record port { preceding = Was count at }
 
 abbrev pub refused_by : Refusal → ℕ → LocalTime → Port → Outcome Port
 refused_by refusal count at port = record { answer = Err refusal; after = noted_port count at port }
@@ -38,7 +39,7 @@ sample_of f p delay = record { grand = f.grand; local = earlier_by p delay; erro
 -- steps 4 and 5: what is stored of a frame with this held hop and delay
 abbrev pub taken_port : Fields → ℕ → LocalTime → ℕ → LocalTime → Port → Port
 taken_port f hop p delay at port = record {
-  preceding = Some (record { count = f.count; arrival = at });
+  preceding = Was f.count at;
   announcement = Some (record { precedence = f.precedence; hop = hop; heard_at = at });
   samples = kept_of port.samples (same_clock port.announcement f.precedence) (sample_of f p delay);
   pair = Some (record { there = f.local; here = p });
@@ -57,10 +58,10 @@ followed_by_of setting chosen f p at port =
     delayed_by (link_delay_of setting.delay (neighbour_rate_of port.pair f.local p) f.local p f.tx f.rx) chosen f p at port
 
 -- 8 where the frameCount does not follow on the preceding one, or there is none
-abbrev pub counted_by : Option Preceding → Setting → ℕ → Fields → LocalTime → Port → Result Port Refusal
-counted_by None setting chosen f at port = Err NotNext
-counted_by (Some held) setting chosen f at port =
-    cond (eqb f.count (next_count held.count)) (followed_by_of setting chosen f held.arrival at port) (Err NotNext)
+abbrev pub counted_by : Preceding → Setting → ℕ → Fields → LocalTime → Port → Result Port Refusal
+counted_by Never setting chosen f at port = Err NotNext
+counted_by (Was count p) setting chosen f at port =
+    cond (eqb f.count (next_count count)) (followed_by_of setting chosen f p at port) (Err NotNext)
 
 -- 7 for the last hop, then 8, then 9; else the record that took the frame. `chosen` is the chosen clock's held hop before the call
 abbrev pub taken_by : Setting → ℕ → Fields → LocalTime → Port → Result Port Refusal

@@ -4,15 +4,16 @@ use Rattle.times.specs.Times.{since_of, next_count}
 use Rattle.times.specs.declared.LocalTime.{LocalTime}
 use Rattle.samples.specs.declared.Samples.TheVariants.{Empty}
 use Rattle.choice.specs.declared.Announcement.{Announcement}
+use Rattle.port.specs.declared.Preceding.TheVariants.{Never}
 use Rattle.port.specs.declared.Port.{Port}
 use Rattle.port.specs.declared.OwnClock.{OwnClock}
 
 -- nothing is stored at first
 abbrev pub empty_port : Port
-empty_port = record { preceding = None; announcement = None; samples = Empty; pair = None; echo = None; count = 0 }
+empty_port = record { preceding = Never; announcement = None; samples = Empty; pair = None; echo = None; count = 0 }
 
 abbrev pub empty_clock : OwnClock
-empty_clock = record { preceding = None; samples = Empty }
+empty_clock = record { preceding = Never; samples = Empty }
 
 -- without announcement, samples and echo
 abbrev pub silenced : Port → Port

@@ -2,7 +2,7 @@
 ghost use Rattle.std.specs.Prelude.{◌≡◌};
 ghost use Rattle.port.specs.Record.{empty_port, empty_clock, too_old, aged_port};
 
-use crate::{OwnClock, Port};
+use crate::{OwnClock, Port, Preceding};
 use choice::Announcement;
 use samples::Samples;
 use times::{LocalTime, local};
@@ -12,7 +12,7 @@ pub fn empty() -> Port
     ensures { result ≡ empty_port }
 {
     Port {
-        preceding: None,
+        preceding: Preceding::Never,
         announcement: None,
         samples: Samples::Empty,
         pair: None,
@@ -26,7 +26,7 @@ pub fn empty_clock() -> OwnClock
     ensures { result ≡ empty_clock }
 {
     OwnClock {
-        preceding: None,
+        preceding: Preceding::Never,
         samples: Samples::Empty,
     }
 }

@@ -18,12 +18,15 @@ pub fn own_clock(clock: OwnClock, count: u8, grand: GrandTime, at: LocalTime) ->
     requires in_range { InRange grand }
     ensures { result ≡ own_reading_of count grand at clock }
 {
-    let preceding = Some(Preceding { count, arrival: at });
+    let preceding = Preceding::Was { count, arrival: at };
     match clock.preceding {
-        Some(held) if count == local::next_count(held.count) => {
+        Preceding::Was {
+            count: held,
+            arrival,
+        } if count == local::next_count(held) => {
             let sample = Sample {
                 grand,
-                local: held.arrival,
+                local: arrival,
                 error: ErrorTime(0),
             };
             Outcome {

@@ -38,10 +38,10 @@ fn stored(port: Port, f: Fields, hop: u8, p: LocalTime, delay: u64, at: LocalTim
         here: p,
     });
     Port {
-        preceding: Some(Preceding {
+        preceding: Preceding::Was {
             count: f.count,
             arrival: at,
-        }),
+        },
         announcement: Some(Announcement {
             precedence: f.precedence,
             hop,
@@ -70,11 +70,12 @@ fn taken(
     if f.hop == choice_hop::LAST_HOP {
         return Err(Refusal::LastHopHeard);
     }
-    let preceding = port.preceding.ok_or(Refusal::NotNext)?;
-    if f.count != local::next_count(preceding.count) {
+    let Preceding::Was { count, arrival: p } = port.preceding else {
+        return Err(Refusal::NotNext);
+    };
+    if f.count != local::next_count(count) {
         return Err(Refusal::NotNext);
     }
-    let p = preceding.arrival;
     let delay = delay::link_delay(setting.delay, port.pair, f.local, p, f.tx, f.rx)?;
     let hop = choice_hop::held_hop(f.hop, chosen);
     Ok(stored(port, f, hop, p, delay, at))
@@ -96,10 +97,10 @@ pub fn receive(port: Port, setting: Setting, chosen: u8, f: Fields, at: LocalTim
         Err(refusal) => Outcome {
             answer: Err(refusal),
             after: Port {
-                preceding: Some(Preceding {
+                preceding: Preceding::Was {
                     count: f.count,
                     arrival: at,
-                }),
+                },
                 ..port
             },
         },
