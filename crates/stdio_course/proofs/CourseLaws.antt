@@ -2,12 +2,29 @@
 use mathlib.Core.Path.{◌≡◌, refl, sym, ap, ◌∙◌}
 use mathlib.Core.Bool.{Bool, true, false, true≢false}
 use mathlib.Core.Logic.{◌⊎◌, inl, inr, ⊎_elim}
-use Prim.Native.Nat.{ℕ, ◌<◌, ◌≤◌}
+use Prim.Native.Nat.{ℕ, zero, suc, ◌<◌, ◌≤◌}
 use native.Mathlib.Omega.{arith}
-use Rattle.std.proofs.Common.{Some}
+use Rattle.std.proofs.Common.{Option, Some, None}
 use Rattle.stdio_course.specs.declared.Course.{Course}
-use Rattle.stdio_course.specs.declared.Course.TheVariants.{On, Ended, OutputLost}
+use Rattle.stdio_course.specs.declared.Course.TheVariants.{On, Ended, InputLost, OutputLost}
 use Rattle.stdio_course.specs.Course.{course_after, reads_on, onward_after}
+
+-- ---- after a read
+
+-- answers that were not written
+pub lost_output : (got : Option ℕ) → OutputLost ≡ course_after got false
+lost_output got = refl
+
+-- answers that were, to a read that failed, to one of no bytes, and to one of some
+pub failed_read : InputLost ≡ course_after None true
+failed_read = refl
+
+pub empty_read : Ended ≡ course_after (Some 0) true
+empty_read = refl
+
+pub some_read : (n : ℕ) → 0 < n → On ≡ course_after (Some n) true
+some_read zero h = absurd (omega arith)
+some_read (suc n) h = refl
 
 -- ---- within the bytes of a read
 
