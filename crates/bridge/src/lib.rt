@@ -1,4 +1,4 @@
-// The state of a bridge, handed in and back by value, what its calls answer, and Setup's defaults. The definitions and theorems of all calls stand here; each call's code is a crate above.
+// The state of a bridge, handed in and back by value, what its calls answer, how many bytes both take, and Setup's defaults. The definitions and theorems of all calls stand here; each call's code is a crate above.
 #![tactic(auto)]
 
 ghost use Rattle.std.specs.Prelude.{◌≡◌};
