@@ -5,7 +5,7 @@ use mathlib.Core.Logic.{◌⊎◌, ⊎_elim}
 use mathlib.Core.List.{List, [], ◌++◌}
 use Prim.Native.Nat.{ℕ, zero, suc}
 use lib.ListN.{take}
-use Rattle.std.proofs.Common.{Option, Some, None, is_some, unwrap_or, ◌≤◌, arith}
+use Rattle.std.proofs.Common.{Option, Some, None, unwrap_or, ◌≤◌, arith}
 use Rattle.std.specs.Prelude.{IfSome}
 use Rattle.std.specs.Io.KnownBytes.{Appends, Consumes, IsAtEnd}
 use Rattle.std.proofs.KnownBytes.{Appends-nil, Appends-trans, Consumes-nil, Consumes-trans, Consumes-whole}
@@ -75,26 +75,21 @@ pub read_within : (got : Option ℕ) (k n : ℕ) → k ≡ unwrap_or got 0 → I
 read_within None k n e w = omega arith
 read_within (Some m) k n e w = omega (arith, w)
 
--- what the answers to them leave stays ready
-pub ready_on : (left : Option Session) (s s₁ : Session) → s₁ ≡ unwrap_or left s → IfSome left (λ x. Ready x) → Ready s → Ready s₁
-ready_on None s s₁ e r q = rw e q
-ready_on (Some x) s s₁ e r q = rw e r
-
 -- one read more, what it gave being answered, or its output lost
-pub told_more : (p : Rules) → ProgramLaws p → (s₀ : Session) (had held : Option (List ℕ)) (s : Session) (has holds : Option (List ℕ)) (got : Option ℕ) (k : ℕ) (left : Option Session) (s₁ : Session) (bytes : List ℕ) (has₁ holds₁ : Option (List ℕ))
-    → k ≡ unwrap_or got 0 → s₁ ≡ unwrap_or left s → Told p s₀ had held On s has holds → Gave got has has₁ bytes
-    → IfSome left (λ x. Leaves (fed_of p s.bridge (line_of s) (take k bytes)) x)
-    → IfSome left (λ x. Appends holds holds₁ (fed_of p s.bridge (line_of s) (take k bytes)).text)
-    → going (course_after got (is_some left)) ≡ true → Told p s₀ had held (course_after got (is_some left)) s₁ has₁ holds₁
-told_more p laws s₀ had held s has holds got k None s₁ bytes has₁ holds₁ f n t g l w e = absurd (true≢false (sym e))
-told_more p laws s₀ had held s has holds None k (Some x) s₁ bytes has₁ holds₁ f n t g l w e = absurd (true≢false (sym e))
-told_more p laws s₀ had held s has holds (Some m) k (Some x) s₁ bytes has₁ holds₁ f n t g l w e =
-    let leaves : Leaves (fed_of p s.bridge (line_of s) (take k bytes)) s₁ = rw n l in
+pub told_more : (p : Rules) → ProgramLaws p → (s₀ : Session) (had held : Option (List ℕ)) (s : Session) (has holds : Option (List ℕ)) (got : Option ℕ) (k : ℕ) (wrote : Bool) (s₁ : Session) (bytes : List ℕ) (has₁ holds₁ : Option (List ℕ))
+    → k ≡ unwrap_or got 0 → Told p s₀ had held On s has holds → Gave got has has₁ bytes
+    → (wrote ≡ true → Leaves (fed_of p s.bridge (line_of s) (take k bytes)) s₁)
+    → (wrote ≡ true → Appends holds holds₁ (fed_of p s.bridge (line_of s) (take k bytes)).text)
+    → going (course_after got wrote) ≡ true → Told p s₀ had held (course_after got wrote) s₁ has₁ holds₁
+told_more p laws s₀ had held s has holds got k false s₁ bytes has₁ holds₁ f t g l w e = absurd (true≢false (sym e))
+told_more p laws s₀ had held s has holds None k true s₁ bytes has₁ holds₁ f t g l w e = absurd (true≢false (sym e))
+told_more p laws s₀ had held s has holds (Some m) k true s₁ bytes has₁ holds₁ f t g l w e =
+    let leaves = l refl in
     let both = two_reads p laws s₀.bridge (line_of s₀) t.done (take k bytes) _ _ s s₁ t.leaves refl leaves refl in record {
       done = t.done ++ take k bytes;
       read = Consumes-trans _ _ _ _ _ t.read (rw f g.0);
       leaves = both.0;
-      wrote = subst (λ (x : List ℕ). Appends held holds₁ x) both.1 (Appends-trans _ _ _ _ _ t.wrote w);
+      wrote = subst (λ (x : List ℕ). Appends held holds₁ x) both.1 (Appends-trans _ _ _ _ _ t.wrote (w refl));
       at_end = λ z. g.1 (ended_none m z);
     }
 

@@ -42,31 +42,30 @@ fn put<W: Write>(output: &mut W, bytes: &[u8]) -> bool
     output.write_all(bytes).is_ok()
 }
 
-// Answers what a read gave, and writes the answers; the session that is left, or none where the output was lost, which is the last.
-// That a write was lost is kept beside the session and ends the loop by `onward`: where the bytes go on then is a rule with a definition and edits of its own (`onward_after`).
+// Answers what a read gave, and writes the answers, in a session that it is lent; whether all of them were written. A lost output is the last.
+// That a write was lost ends the loop by `onward`: where the bytes go on then is a rule with a definition and edits of its own (`onward_after`).
 fn answered<P: Program, W: Write>(
-    s: Session,
+    s: &mut Session,
     bytes: &[u8],
     out: &mut [u8],
     output: &mut W,
-) -> Option<Session>
-    requires ready { Ready s }
+) -> bool
+    requires ready { Ready s.old }
     requires longest_answer_in_bounds { longest_answer ≤ length out.old }
-    ensures ready_2 { IfSome result (λ left. Ready left) }
-    ensures leaves { IfSome result (λ left. Leaves (fed_of P.rules s.bridge (line_of s) bytes.now) left) }
-    ensures writes { IfSome result (λ left.
-        Appends (W.contents output.old) (W.contents output.new) (fed_of P.rules s.bridge (line_of s) bytes.now).text) }
+    ensures ready_2 { Ready s.new }
+    ensures leaves { result ≡ true → Leaves (fed_of P.rules s.old.bridge (line_of s.old) bytes.now) s.new }
+    ensures writes { result ≡ true →
+        Appends (W.contents output.old) (W.contents output.new) (fed_of P.rules s.old.bridge (line_of s.old) bytes.now).text }
 {
-    let mut left = s;
     let mut from = 0;
     let mut wrote = true;
     while from < bytes.len() {
-        let turn = session::turn::<P>(left, bytes, from, out);
+        let turn = session::turn::<P>(*s, bytes, from, out);
         wrote = put(output, &out[..turn.filled]);
-        left = turn.session;
+        *s = turn.session;
         from = stdio_course::onward(wrote, turn.rest, bytes.len());
     }
-    if wrote { Some(left) } else { None }
+    wrote
 }
 
 // At the end of the input, answers what is left of a line and writes the answer; how the run went then.
@@ -122,9 +121,8 @@ pub fn run<P: Program, R: Read, W: Write, E: Write>(
     let mut reads: u64 = 0;
     while reads < u64::MAX && stdio_course::reads_on(course) {
         let got = read_some(input, &mut bytes);
-        let left = answered::<P, W>(s, &bytes[..got.unwrap_or(0)], &mut out, output);
-        course = stdio_course::after(got, left.is_some());
-        s = left.unwrap_or(s);
+        let wrote = answered::<P, W>(&mut s, &bytes[..got.unwrap_or(0)], &mut out, output);
+        course = stdio_course::after(got, wrote);
         reads += 1;
     }
     let end = closed::<P, W>(s, course, &mut out, output);

@@ -14,7 +14,7 @@ use Rattle.stdio.proofs.answered.Goals as goal
 pub loop-from-init : goal.loop-from-init
 unfolding fed_of
 loop-from-init g c =
-    (c.requires.ready, λ _. (turns_none g.P.Program.rules c.args.s c.args.bytes.now c.requires.ready, Appends-nil _), omega arith, refl, λ _. refl)
+    (c.requires.ready, λ _. (turns_none g.P.Program.rules c.args.s.now c.args.bytes.now c.requires.ready, Appends-nil _), omega arith, refl, λ _. refl)
 
 pub loop-from-preserved : goal.loop-from-preserved
 loop-from-preserved g c =
@@ -22,7 +22,7 @@ loop-from-preserved g c =
     let k = c.loop-from-test.true in
     let e = c.turn-turn.ensures in
     let kept = l.invariant.1 (l.invariant.4 k) in
-    let on = turns_on g.P.Program.rules c.args.s c.args.bytes.now g.met.P.Program.laws l.from l.left c.turn-turn.result _ _ kept.0 refl e in
+    let on = turns_on g.P.Program.rules c.args.s.now c.args.bytes.now g.met.P.Program.laws l.from l.s c.turn-turn.result _ _ kept.0 refl e in
     let size = length c.args.bytes.now in
     let wrote = c.put-wrote.result in
     let rest = c.turn-turn.result.rest in

@@ -7,8 +7,8 @@ use Rattle.stdio.proofs.answered.Given as goal
 
 abbrev pub invariant-loop-from : goal.invariant-loop-from
 invariant-loop-from g l =
-    let fed = fed_of g.P.Program.rules l.initial.left.bridge (line_of l.initial.left) (part l.bytes 0 l.from) in
-    Ready l.left × (l.wrote ≡ true → Leaves fed l.left × Appends (g.W.Write.contents l.initial.output) (g.W.Write.contents l.output) fed.text)
+    let fed = fed_of g.P.Program.rules l.initial.s.bridge (line_of l.initial.s) (part l.bytes 0 l.from) in
+    Ready l.s × (l.wrote ≡ true → Leaves fed l.s × Appends (g.W.Write.contents l.initial.output) (g.W.Write.contents l.output) fed.text)
     × (l.from ≤ length l.bytes) × (length l.out ≡ length l.initial.out) × (l.from < length l.bytes → l.wrote ≡ true)
 
 abbrev pub decreases-loop-from : goal.decreases-loop-from

@@ -5,7 +5,7 @@ use native.Mathlib.Omega.{arith}
 use Rattle.std.proofs.Common.{length-take-le}
 use Rattle.stdio_course.specs.declared.Course.{Course}
 use Rattle.stdio_course.specs.Course.{course_after}
-use Rattle.stdio.proofs.Whole.{going, on_of, was_ended, Told, told_none, read_within, ready_on, told_more, told_whole}
+use Rattle.stdio.proofs.Whole.{going, on_of, was_ended, Told, told_none, read_within, told_more, told_whole}
 use Rattle.stdio.proofs.run.Goals as goal
 
 pub loop-reads-init : goal.loop-reads-init
@@ -26,20 +26,19 @@ loop-reads-preserved g c =
     let has = g.R.Read.remaining l.input in
     let holds = g.W.Write.contents l.output in
     let got = c.read_some-got.result in
-    let left = c.answered-left.result in
-    let s₁ = c.unwrap_or-s.result in
+    let wrote = c.answered-wrote.result in
+    let s₁ = c.answered-wrote.new.s in
     let has₁ = g.R.Read.remaining c.read_some-got.new.input in
-    let holds₁ = g.W.Write.contents c.answered-left.new.output in
-    let said = c.answered-left.ensures in
+    let holds₁ = g.W.Write.contents c.answered-wrote.new.output in
+    let said = c.answered-wrote.ensures in
     let on = on_of l.course (sym c.reads_on.ensures ∙ c.if-reads_on.true) in
     let told = subst (λ (x : Course). going x ≡ true → Told p s₀ had held x l.s has holds) on l.invariant.4 refl in
-    let after = c.after-course.ensures ∙ ap (course_after got) c.is_some.ensures in
-    let more = told_more p g.met.P.Program.laws s₀ had held l.s has holds got c.unwrap_or.result left s₁ c.read_some-got.new.bytes has₁ holds₁ c.unwrap_or.ensures c.unwrap_or-s.ensures told c.read_some-got.ensures.gave said.leaves said.writes in (
-      ready_on left l.s s₁ c.unwrap_or-s.ensures said.ready_2 l.invariant.0,
+    let more = told_more p g.met.P.Program.laws s₀ had held l.s has holds got c.unwrap_or.result wrote s₁ c.read_some-got.new.bytes has₁ holds₁ c.unwrap_or.ensures told c.read_some-got.ensures.gave said.leaves said.writes in (
+      said.ready_2,
       c.read_some-got.auto.bytes ∙ l.invariant.1,
-      c.answered-left.auto.out ∙ l.invariant.2,
+      c.answered-wrote.auto.out ∙ l.invariant.2,
       omega (arith, c.loop-reads-test.true),
-      subst (λ (x : Course). going x ≡ true → Told p s₀ had held x s₁ has₁ holds₁) (sym after) more,
+      subst (λ (x : Course). going x ≡ true → Told p s₀ had held x s₁ has₁ holds₁) (sym c.after-course.ensures) more,
     )
 
 pub returns-clause-answered : goal.returns-clause-answered
